@@ -4,9 +4,9 @@
 #
 #     bench/files.sh [RUNS] [FOLDER]
 #
-# cm_bench_files put defines ordinary classes (those of bench/run.sh) in a new file in FOLDER (the
-# crate's out/), one a commit and 64 a commit. The same records, as they stand in that file, are
-# then stored by SQLite (write-ahead log, synchronous=FULL), by LMDB, by the bare device calls that
+# cm_bench_files put defines ordinary classes (those of bench/run.sh) in a new file in FOLDER
+# (out/), one a commit and 64 a commit. The same records, as they stand in that file, are then
+# stored by SQLite (write-ahead log, synchronous=FULL), by LMDB, by the bare device calls that
 # the same commits make (bench/stores.c), and by two other choices of these calls, on the same file
 # system. Each row has the best of RUNS runs (5), and the worst for the machine's noise; all take
 # turns, so that a busy disk slows all of them.
@@ -19,7 +19,7 @@ top=$(cd "$(dirname "${BASH_SOURCE[0]}")/.." && pwd)
 runs=${1:-5}
 sizes=(--top 12 --roots 64 --slots 16384)
 
-. "$top/bin/build.sh"
+. "$top/bin/programs.sh"
 . "$top/bench/lib.sh"
 
 work=$(mktemp -d)
@@ -33,11 +33,10 @@ stores=(bare joined holes)
 add_store sqlite sqlite3.h -DWITH_SQLITE -lsqlite3
 add_store lmdb lmdb.h -DWITH_LMDB -llmdb
 gcc -O2 -o "$work/stores" "$top/bench/stores.c" "${flags[@]}"
-build cm_bench
-build cm_bench_files
-bench=$top/crates/cm_bench/out/cm_bench
-files=$top/crates/cm_bench_files/out/cm_bench_files
-folder=$(mktemp -d -p "${2:-$top/crates/cm_bench_files/out}")
+bench=$(find_program cm_bench)
+files=$(find_program cm_bench_files)
+mkdir -p "$top/out"
+folder=$(mktemp -d -p "${2:-$top/out}")
 
 "$top/bench/bench_classes.py" --only-52 "${jars[@]}" >"$work/classes"
 "$files" put "$folder/first" --group 64 "${sizes[@]}" <"$work/classes"

@@ -33,8 +33,8 @@ fetch() {
     apt-get install -y -qq "${packages[@]}" >&2
 }
 
-. "$top/bin/build.sh"
-bench=$top/crates/cm_bench/out/cm_bench
+. "$top/bin/programs.sh"
+bench=$(find_program cm_bench)
 
 # Rows of cm_bench, with the stream's name in front.
 measure() {
@@ -52,7 +52,6 @@ read_by_libraries() {
 }
 
 fetch
-build cm_bench
 "$top/bench/bench_classes.py" --only-52 "${jars[@]}" >"$work/ordinary.bin"
 for kind in "${hostile[@]}"; do
     "$top/bench/bench_classes.py" --hostile "$kind" >"$work/$kind.bin"

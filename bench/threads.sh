@@ -5,7 +5,7 @@
 #     bench/threads.sh [RUNS] [FOLDER]
 #
 # cm_bench_files threads has 1, 2, 4 and 16 threads define the ordinary classes (those of
-# bench/run.sh) in a new file in FOLDER (the crate's out/), each thread its share, one after
+# bench/run.sh) in a new file in FOLDER (out/), each thread its share, one after
 # another, in a loader of its own: classes that were prepared before, and classes that each thread
 # prepares first. The other stores store the same records, one a commit (bench/stores.c). Each row
 # has the best of RUNS runs (5), and the worst for the machine's noise; all take turns. After it
@@ -18,7 +18,7 @@ top=$(cd "$(dirname "${BASH_SOURCE[0]}")/.." && pwd)
 runs=${1:-5}
 sizes=(--top 12 --roots 64 --slots 16384)
 
-. "$top/bin/build.sh"
+. "$top/bin/programs.sh"
 . "$top/bench/lib.sh"
 
 work=$(mktemp -d)
@@ -31,11 +31,9 @@ add_store sqlite sqlite3.h -DWITH_SQLITE -lsqlite3
 add_store lmdb lmdb.h -DWITH_LMDB -llmdb
 add_store rocksdb rocksdb/c.h -DWITH_ROCKSDB -lrocksdb -lpthread
 gcc -O2 -o "$work/stores" "$top/bench/stores.c" "${flags[@]}"
-if [ -z "${CM_BENCH:-}" ]; then # names another build
-    build cm_bench_files
-fi
-bench=${CM_BENCH:-$top/crates/cm_bench_files/out/cm_bench_files}
-folder=$(mktemp -d -p "${2:-$top/crates/cm_bench_files/out}")
+bench=${CM_BENCH:-$(find_program cm_bench_files)} # CM_BENCH names another build
+mkdir -p "$top/out"
+folder=$(mktemp -d -p "${2:-$top/out}")
 
 "$top/bench/bench_classes.py" --only-52 "${jars[@]}" >"$work/classes"
 "$bench" put "$folder/first" --group 64 "${sizes[@]}" <"$work/classes"

@@ -6,8 +6,8 @@ set -u
 cd "$(dirname "$0")/.." || exit 1
 . tests/lib.sh
 
-bench=$(built cm_bench)
-files=$(built cm_bench_files)
+bench=$(find_program cm_bench)
+files=$(find_program cm_bench_files)
 
 "$bench" front >"$work/got" 2>"$work/errors"
 status=$?

@@ -217,20 +217,21 @@ LIMITS = (
     ("roots of a file", 0, "cm_pool/src/geometry.rt", "LEAST_ROOTS: u32 = N;"),
     ("roots of a file", 1, "cm_pool/src/geometry.rt", "MOST_ROOTS: u32 = N;"),
     ("roots of a file", 2, "cm_arguments/src/number.rt", '"roots",\n    N,'),
-    ("slots in a half of the journal", 0, "cm_pool/src/geometry.rt",
+    ("journal slots per half", 0, "cm_pool/src/geometry.rt",
      "LEAST_SLOTS: u32 = N;"),
-    ("slots in a half of the journal", 1, "cm_pool/src/geometry.rt", "MOST_SLOTS: u32 = N;"),
-    ("slots in a half of the journal", 2, "cm_arguments/src/number.rt", '"slots",\n    N,'),
+    ("journal slots per half", 1, "cm_pool/src/geometry.rt", "MOST_SLOTS: u32 = N;"),
+    ("journal slots per half", 2, "cm_arguments/src/number.rt", '"slots",\n    N,'),
     ("name of a loader", 0, "cm_layout/src/name.rt", "LONG_NAME_ROOM: usize = N;\n\n"
      "/// How many bytes a loader's name has at most.\n"
      "pub const NAME_LIMIT: usize = LONG_NAME_ROOM;"),
-    ("name of a loader", 3, "cm_layout/src/name.rt", "pub const NAME_ROOM: usize = N;"),
+    ("name of a loader", 5, "cm_layout/src/name.rt", "pub const NAME_ROOM: usize = N;"),
     ("line of a script", 0, "cm_lines/src/line_buffer.rt", "LINE_LIMIT: usize = N;"),
     ("loaders that `unloadall` removes at once", 0, "cm_layout/src/loader_numbers.rt",
      "UNLOAD_LIMIT: usize = N;"),
     ("commands stored together", 0, "cm_layout/src/entry.rt", "GROUP_SLOTS: usize = N;"),
     ("commands of a file", 1, "cm_layout/src/heads.rt", "LAST_NUMBER: u64 = 1 << N;"),
-    ("passes of a running cache", 0, "cm_cache/src/shared.rt", "MOST_PASSES: u64 = N;"),
+    ("write handles (`Pass`) per running cache", 0, "cm_cache/src/shared.rt",
+     "MOST_PASSES: u64 = N;"),
     ("workers", 1, "cm_arguments/src/number.rt", '"workers",\n    1,\n    1,\n    N,'),
 )
 
@@ -246,10 +247,10 @@ def limits():
                f"{README}: the limit of {what}, as in crates/{file}: {code}")
     top, roots, slots = (rows[what][place] for what, place in
                          (("a root", 3), ("roots of a file", 1),
-                          ("slots in a half of the journal", 1)))
+                          ("journal slots per half", 1)))
     yield (rows["file"] == [4096 + 2 * 64 * slots + roots * 8 * (128 << top)],
            f"{README}: the bytes of the largest file")
-    half = rows["slots in a half of the journal"]
+    half = rows["journal slots per half"]
     yield (rows["live loaders and classes of a file"] == [half[2] // 2, slots // 2],
            f"{README}: half of the slots")
 

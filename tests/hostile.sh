@@ -12,5 +12,5 @@ if ! cc -O2 -Wall -Werror -shared -fPIC -o "$library" tests/calls.c; then
     echo "0 passed, 1 failed"
     exit 1
 fi
-WORK=$work python3 tests/hostile.py "$(executable)" "$(built cm_simulate)" "$library" \
+WORK=$work python3 tests/hostile.py "$(executable)" "$(find_program cm_simulate)" "$library" \
     "${STEP:-16}"

@@ -72,7 +72,7 @@ told_methods() {
 }
 
 # The records of these classes tell the same.
-bench=$(built cm_bench)
+bench=$(find_program cm_bench)
 for name in "${names[@]}"; do told_methods "$work/classes/$name.class"; done >"$work/want"
 bench/bench_classes.py "$work/classes" | "$bench" classes --methods >"$work/got"
 status=$?

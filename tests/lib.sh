@@ -6,7 +6,7 @@ work=$(mktemp -d)
 trap 'rm -rf "$work"' EXIT
 passed=0
 failed=0
-. "$top/bin/build.sh"
+. "$top/bin/programs.sh"
 
 # check NAME STATUS: the program's last run ended with the status, and wrote what stands
 # in $work/want.
@@ -59,17 +59,10 @@ run() {
     status=$?
 }
 
-# executable: the path of the built program itself, which is built where it is missing.
+# executable: the path of the program itself, and not of the script that finds it.
 executable() {
     [ -n "${CMCACHE:-}" ] && { echo "$CMCACHE"; return; }
-    built cmcache
-}
-
-# built CRATE: the path of a crate's executable, which is built where it is missing or older than
-# what it is made of.
-built() {
-    build "$1"
-    echo "$top/crates/$1/out/$1"
+    find_program cmcache
 }
 
 finish() {

@@ -18,6 +18,6 @@ while read -r script; do
     shellcheck -x -P SCRIPTDIR "$script"
     check_last "shellcheck $script"
 done < <(grep -lE '^#! ?/(usr/)?bin/(env )?(ba)?sh|^# shellcheck shell=' \
-    .ci/* bin/* tests/* bench/* examples/* 2>/dev/null)
+    .ci/* bin/* tests/* tests/gate/* bench/* examples/* 2>/dev/null)
 
 finish

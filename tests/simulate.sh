@@ -8,7 +8,7 @@ set -u
 cd "$(dirname "$0")/.." || exit 1
 . tests/lib.sh
 
-simulate=$(built cm_simulate)
+simulate=$(find_program cm_simulate)
 library=$work/allocations.so
 if ! cc -O2 -Wall -Werror -shared -fPIC -o "$library" tests/allocations.c; then
     echo "0 passed, 1 failed"

@@ -17,7 +17,7 @@ UNBROKEN = re.compile(r"\s*(((pub|ghost) )*use [^,]*|#\[.*\])$")
 
 PARTS = ("src", "specs", "proofs")
 SCRIPTS = ("tests/*.py", "tests/*.sh", "tests/*.c", "tests/java/*", "bench/*", "examples/*.py",
-           "bin/*", ".ci/run")
+           "tests/run", "tests/gate/*", "bin/*", ".ci/run")
 
 
 def columns():

@@ -31,8 +31,8 @@ WORK=$work python3 tests/kill.py "$(executable)" "${KILLS:-50}" "$seed" --worker
 check_last "runs with workers that are killed"
 cat "$work/told"
 
-WORK=$work python3 tests/soak.py "$(executable)" "$(built cm_bench_files)" 16 "${SOAK:-1}" \
-    >"$work/told"
+bench=$(find_program cm_bench_files)
+WORK=$work python3 tests/soak.py "$(executable)" "$bench" 16 "${SOAK:-1}" >"$work/told"
 check_last "sixteen threads on one file"
 cat "$work/told"
 
