@@ -215,7 +215,7 @@ def folded(a, b):
 
 
 def state_behind(block, length):
-    """The hasher's state after the first sixteen bytes of so many."""
+    """The hasher's state after the first sixteen bytes of this many."""
     low, high = struct.unpack("<QQ", block)
     return folded(low ^ (INITIAL + length & MASK), high ^ MULTIPLIER)
 

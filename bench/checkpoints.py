@@ -5,7 +5,7 @@
 
 In a cache with some live loaders, a loader is made and unloaded again, one command a group,
 COMMANDS times (20,000). With 4,096 slots in a half the journal's other half is written anew every
-so many commands; with 65,536 slots it never is, at 20,000 commands. Each row has the least of
+this many commands; with 65,536 slots it never is, at 20,000 commands. Each row has the least of
 ROUNDS rounds (3), the two by turns, on files in FOLDER (one beside the program), which go again.
 The checkpoints and the device calls are counted from docs/REGION.md: a group of one command takes
 two slots and four calls, a checkpoint six calls.
@@ -27,7 +27,7 @@ def run(program, words, lines=None):
 
 
 def seconds(program, path, slots, live, commands):
-    """How long the commands take, in a file with so many live loaders."""
+    """How long the commands take, in a file with this many live loaders."""
     run(program, ["format", path, "--slots", str(slots)])
     kept = [b"loader kept%d" % i for i in range(live)]
     if run(program, ["apply", path], kept) != live:

@@ -3,14 +3,14 @@
  *     stores sqlite|lmdb|bare|joined|holes FILE GROUP < RECORDS
  *     stores rocksdb FILE THREADS < RECORDS
  *
- * RECORDS are records one behind another, each behind its length in four bytes and its place in
+ * RECORDS are records one after another, each after its length in four bytes and its place in
  * the cache's file in eight, big-endian. GROUP of them make a commit, which is on the disk when it
  * returns: SQLite with a write-ahead log and synchronous=FULL, LMDB as it comes. With RocksDB each
  * of THREADS threads stores its share of the records, one a commit, synced: RocksDB itself joins
  * the commits of threads that wait. `bare` makes the device calls that a commit of the cache
  * makes, and nothing else: zeros where the file has too few roots, each record in its place, the
  * group's slots, fdatasync, the gate's byte, fdatasync. `joined` makes one write of records that
- * lie one behind another, and `holes` that and grows the file without writing zeros, as the cache
+ * lie one after another, and `holes` that and grows the file without writing zeros, as the cache
  * doesn't: they tell what that would bring. It prints the records, the commits and the nanoseconds
  * of all commits together; making and opening the file isn't counted, for none of them. Each of
  * the three libraries is there where WITH_SQLITE, WITH_LMDB or WITH_ROCKSDB is defined. */

@@ -23,7 +23,7 @@ FULL = (b"--top", b"8", b"--roots", b"256", b"--slots", b"65536")
 
 
 def class_of(number, zeros):
-    """A class with an attribute of so many zeros."""
+    """A class with an attribute of this many zeros."""
     name = b"C%d" % number
     return (HEAD + b"\x07\x00\x02\x01" + len(name).to_bytes(2, "big") + name + OBJECT + TAIL
             + zeros.to_bytes(4, "big") + bytes(zeros))

@@ -5,8 +5,8 @@
 
 Of each class file in FOLDER, in the order of their paths, every STEP-th byte is changed in three
 ways: its lowest bit turned, set to 00, set to FF. The files OUT/0001.in and so on have at most 64
-of them each, since a cache in memory has room for so many classes; each changed class gets a loader
-of its own, and is looked up by the name of the file that it came from.
+of them each, since a cache in memory has room for no more; each changed class gets a loader of its
+own, and is looked up by the name of the file that it came from.
 """
 import itertools
 import pathlib

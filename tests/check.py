@@ -177,7 +177,7 @@ def each_byte(program, folder):
 
 
 def drawn(program, path, count, seed):
-    """Checks and lists so many files, most of them with some bytes changed; tells how many were
+    """Checks and lists this many files, most of them with some bytes changed; tells how many were
     right, and which weren't."""
     draw = random.Random(seed)
     passed, wrong = 0, []

@@ -4,7 +4,7 @@ short at each of them.
 
     tests/device.py PROGRAM CALLS_LIBRARY
 
-Without a fault the calls are those that region.py makes of the commands, each reply behind those of
+Without a fault the calls are those that region.py makes of the commands, each reply after those of
 its command. With one, the replies end with the right `unsure`, no call on the file follows, and the
 file, read by region.py and looked up by another run, holds what was acknowledged. And wherever the
 machine stops, whatever becomes of the bytes that aren't synced then: what they leave is a cache
@@ -113,7 +113,7 @@ def pieces(call):
 
 
 def begun(geometry, count=0):
-    """A cache behind so many commands, and its file. Nothing lives in it."""
+    """A cache after this many commands, and its file. Nothing lives in it."""
     cache, file = runs.new_cache(geometry), region.Region(geometry)
     for at in range(count):
         cache.answer(b"unload x" if at % 2 else b"loader x")
@@ -231,7 +231,7 @@ def stop_at_each_call(bench, calls):
             with open(path, "wb") as file:
                 file.write(disk.left(of))
             state, number = runs.state_in(path)
-            name = f"the machine stops behind call {at}, unsynced bytes: {fate}"
+            name = f"the machine stops after call {at}, unsynced bytes: {fate}"
             good = number in (cache.number, cache.number + 1) and state == states[number]
             if bench.checks.check(name, good,
                                   f"number {number}, {cache.number} acknowledged: {state!s:.100}"):

@@ -163,7 +163,7 @@ def having(kinds):
 
 
 def planted():
-    """The planted bugs that the proofs' tables name, by their path in the audit or in a crate of
+    """The mutants that the proofs' tables name, by their path in the audit or in a crate of
     their row: one that the row or the text above its table names, or whose type the contract names;
     where there is none, one that has a function named there."""
     in_gate = {crate: edits(f"crates/{crate}/must-fail") for crate in CRATES}

@@ -273,7 +273,7 @@ for gate in A4 00 FF A5; do
     check "a gate that is $gate" 1
 done
 
-# ---- files of an older version are moved over
+# ---- files of an older version are upgraded
 
 older() { # FILE: a file of two loaders and three classes, whose half is of the version before
     printf 'loader a\ndefine a %s\nloader b\ndefine a %s\ndefine b %s\nunload b\n' "$a" \
@@ -292,7 +292,7 @@ check_last "an older file is checked"
 cmp -s "$work/older" "$work/kept"
 check_last "checking leaves it as it is"
 run apply "$work/older"
-check "an older file is moved over" 0
+check "an older file is upgraded" 0
 cmp -s "$work/older" "$work/moved"
 check_last "by a script: its bytes"
 for how in list trim; do
@@ -323,11 +323,11 @@ python3 tests/region.py opened "$work/moved" >"$work/older"
 chmod a-w "$work/older"
 run list "$work/older"
 [ "$status" = 0 ]
-check_last "what is moved over is listed without a right to write"
+check_last "what is upgraded is listed without a right to write"
 
 # ---- names that take two slots of the journal
 
-# name X N: a name of so many bytes.
+# name X N: a name of this many bytes.
 name() {
     printf "$1%.0s" $(seq "$2")
 }
@@ -355,7 +355,7 @@ check_says "a file of long names" 0 "ok loaders 65 classes 0 chunks 0 number 67"
 check_last "a file of long names: the verdict"
 python3 tests/region.py list "$long" >"$work/list"
 
-# Groups up to the half's end and beyond: half 1 counts then, behind a checkpoint.
+# Groups up to the half's end and beyond: half 1 counts then, after a checkpoint.
 for at in $(seq 40); do printf 'unload a\nloader a\n'; done >"$work/in"
 run apply "$long"
 printf 'ok %s\n' $(seq 68 147) >"$work/want"
@@ -386,7 +386,7 @@ spoiled "a name without its rest" "damaged 5 2" $((4096 + 64 * 3 + 1)) '\x13'
 spoiled "a rest of another kind" "damaged 5 2" $((4096 + 64 * 3 + 1)) '\x11'
 spoiled "a rest that isn't zeros" "damaged 5 2" $((4096 + 64 * 3 + 17)) 'm'
 spoiled "a rest with another first byte" "damaged 5 2" $((4096 + 64 * 3)) '\x01'
-spoiled "a rest behind a name of 48 bytes" "damaged 5 3" $((4096 + 64 * 2 + 2)) '\x30'
+spoiled "a rest after a name of 48 bytes" "damaged 5 3" $((4096 + 64 * 2 + 2)) '\x30'
 spoiled "a space in the first slot" "damaged 6 2" $((4096 + 64 * 2 + 16)) ' '
 spoiled "a space in the rest" "damaged 6 2" $((4096 + 64 * 3 + 16)) ' '
 spoiled "7F in the rest" "damaged 6 5" $((4096 + 64 * 6 + 16)) '\x7f'

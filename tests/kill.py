@@ -7,7 +7,7 @@ holds then.
 Each reply that came before the kill has to be the right one; the file, read by region.py, checked,
 listed and looked up by the program, has to hold all commands that were acknowledged and, of the
 others, at most the one that was being run. A kill of `trim` comes after each, and leaves the same;
-then the file is made one of the version before, and a kill comes while it is moved over.
+then the file is made one of the version before, and a kill comes while it is upgraded.
 The next run goes on with the file as it is. Some kills hit `format`: its file is no cache then, or
 the empty one, or there is none. The words are further ones of `apply`.
 """
@@ -36,7 +36,7 @@ def format_words(path, geometry):
 
 
 def killed(words, lines, delay):
-    """Runs the program and kills it after so many seconds: its lines of output, and whether the
+    """Runs the program and kills it after this many seconds: its lines of output, and whether the
     kill hit it."""
     process = subprocess.Popen(words, stdin=subprocess.PIPE, stdout=subprocess.PIPE,
                                stderr=subprocess.DEVNULL)
@@ -116,7 +116,7 @@ def made_older(path):
 
 
 def kill_moving_over(checks, program, path, cache, rng, longest):
-    """A file of the version before is listed, and so moved over: by a run that is killed, and by
+    """A file of the version before is listed, and so upgraded: by a run that is killed, and by
     one that isn't."""
     if not made_older(path):
         return True

@@ -32,7 +32,7 @@ UTF8, INTEGER, FLOAT, LONG, DOUBLE, CLASS, STRING = 1, 3, 4, 5, 6, 7, 8
 FIELDREF, METHODREF, INTERFACE_METHODREF, NAME_AND_TYPE = 9, 10, 11, 12
 METHOD_HANDLE, METHOD_TYPE, INVOKE_DYNAMIC = 15, 16, 18
 
-# The sizes of the numbers behind each tag but that of a Utf8.
+# The sizes of the numbers after each tag but that of a Utf8.
 BODIES = {
     INTEGER: (4,), FLOAT: (4,), LONG: (8,), DOUBLE: (8,), CLASS: (2,), STRING: (2,),
     METHOD_TYPE: (2,), FIELDREF: (2, 2), METHODREF: (2, 2), INTERFACE_METHODREF: (2, 2),
@@ -193,7 +193,7 @@ class ClassFile:
 
 
 def packed(first, second=0, third=0, fourth=0, low=0):
-    """A word of four numbers of 16 bits, or of two and one of 32 bits behind them."""
+    """A word of four numbers of 16 bits, or of two and one of 32 bits after them."""
     return first | second << 16 | (third | low) << 32 | fourth << 48
 
 
@@ -733,7 +733,7 @@ class Arena:
         self.chain = []
 
     def place(self, words, pool, top):
-        """The chunk and the offset for so many words."""
+        """The chunk and the offset for this many words."""
         need = next(order for order in range(64) if UNIT << order >= words)
         if need > top:
             raise Refused("5 record too long")
@@ -802,7 +802,7 @@ class Cache:
         self.number = 0
 
     def reopened(self):
-        """Opened again: the roots behind the last one in use aren't present any more."""
+        """Opened again: the roots after the last one in use aren't present any more."""
         self.pool = Pool(self.geometry)
         for loader in self.loaders.values():
             for chunk, _ in loader.arena.chain:

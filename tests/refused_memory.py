@@ -73,7 +73,7 @@ def stream_of_threads():
 
 
 def states_of_threads():
-    """What a file holds behind none, one and both commands of `threads`."""
+    """What a file holds after none, one and both commands of `threads`."""
     cache, states = oracle.Cache(), [{}]
     for line in [b"loader t0", runs.define(b"t0", b"A", 0)]:
         cache.answer(line)

@@ -4,8 +4,8 @@
     tests/region.py check FILE             what `cmcache check FILE` has to say of it
     tests/region.py list FILE              what `cmcache list FILE` has to say of it
     tests/region.py opened FILE            writes the bytes that it has once it was opened: those
-                                           that it had, or of an older version those that it is
-                                           moved over to
+                                           that it had, or if it is of an older version, those of
+                                           the upgraded file
     tests/region.py new TOP ROOTS SLOTS    writes the bytes of a new file
     tests/region.py after < SCRIPT         writes the bytes of a new file after the script, whose
                                            replies oracle.py gives
@@ -25,7 +25,7 @@ SLOT = 64
 NUMBERS = 2 ** 63
 HEAD, GROUP, LOADER, DEFINE, UNLOAD, MOVE = 0x01, 0x02, 0x11, 0x12, 0x13, 0x14
 UNLOAD_ALL, REST = 0x15, 0x16
-# The version of entries that is written; files of the one before are read, and moved over.
+# The version of entries that is written; files of the one before are read, and upgraded.
 VERSION = 2
 
 
@@ -46,7 +46,7 @@ class Damaged(Exception):
 # ---- writing
 
 def spelled(kind, form, *numbers, gate=0):
-    """A slot: numbers behind its first two bytes, and zeros."""
+    """A slot: numbers after its first two bytes, and zeros."""
     return (bytes([gate, kind]) + struct.pack("<" + form, *numbers)).ljust(SLOT, b"\0")
 
 
@@ -117,14 +117,14 @@ class Region:
         return self.slot + 1 + slots_of(entry) > self.geometry.slots
 
     def behind_rows(self):
-        """The first slot behind what lives, once that is written into a half."""
+        """The first slot after what lives, once that is written into a half."""
         return 1 + sum(map(slots_of, self.rows))
 
     def half_at(self, half):
         return SUPERBLOCK + SLOT * self.geometry.slots * half
 
     def checkpoint(self, number):
-        """The device calls that write what lives into the other half, behind this last number."""
+        """The device calls that write what lives into the other half, after this last number."""
         half = self.half_at(1 - self.half)
         yield (half, b"\0") if self.is_other_open else None
         yield None
@@ -285,7 +285,7 @@ class File:
         return count if self.version == 1 else count - kinds.count(REST)
 
     def read_loader(self, index, end):
-        """A loader's number and name. What is left of a long name stands in the slot behind its
+        """A loader's number and name. What is left of a long name stands in the slot after its
         own, which belongs to the same group, or to the live rows too."""
         slot = self.slot(index)
         length, loader = slot[2], number(slot, 8, 8)
@@ -301,7 +301,7 @@ class File:
         return loader, name
 
     def read_entry(self, index, end, own):
-        """An entry, of which no slot lies at this end or behind it: how many slots it takes. One of
+        """An entry, of which no slot lies at this end or after it: how many slots it takes. One of
         a group has a number of its own; a live row has none."""
         slot = self.slot(index)
         kind = slot[1]

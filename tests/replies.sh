@@ -47,7 +47,7 @@ printf 'refused 1 name\nnone\nok 1\n' >"$work/want"
 run apply --memory
 check "bytes that aren't UTF-8" 1
 
-name() { printf "$1%.0s" $(seq "$2"); } # X N: a name of so many bytes
+name() { printf "$1%.0s" $(seq "$2"); } # X N: a name of this many bytes
 for bytes in 47 48 49 95 96 97; do echo "loader $(name m $bytes)"; done >"$work/in"
 {
     echo "find $(name m 97) A"

@@ -120,7 +120,7 @@ CHANGED = [
 
 
 def padded(name, length, zeros):
-    """Class A by another name of one byte, with an attribute of so many zeros whose length is
+    """Class A by another name of one byte, with an attribute of this many zeros whose length is
     given."""
     pool = b"\x00\x06" + one(7, 2) + text(name) + one(7, 4) + text(b"java/lang/Object") + text(b"X")
     return HEADING + pool + CLASS_A[39:51] + b"\x00\x01" + u2(5) + u4(length) + bytes(zeros)

@@ -17,8 +17,8 @@ TAIL = bytes.fromhex("002100010003" "000000000000" "0001" "0005")
 
 
 def padded(name, zeros):
-    """Class A under another name of one letter, with an attribute of so many zeros: its record has
-    20 words and one more for each eight of them."""
+    """Class A under another name of one letter, with an attribute of this many zeros: its record
+    has 20 words and one more for each eight of them."""
     return (HEAD.replace(b"\x01\x00\x01A", b"\x01\x00\x01" + name) + TAIL + zeros.to_bytes(4, "big")
             + bytes(zeros))
 

@@ -46,7 +46,7 @@ def class_a(name=b"A"):
 
 
 def class_p(name, count):
-    """The same with an attribute X of so many zeros."""
+    """The same with an attribute X of this many zeros."""
     data = class_a(name)
     return (data[:9] + b"\x06" + data[10:-14] + utf8(b"X") + data[-14:-2] + b"\x00\x01\x00\x05"
             + struct.pack(">I", count) + bytes(count))
@@ -93,7 +93,7 @@ def is_name(name):
 
 
 def order_for(words):
-    """The least order whose chunks hold so many words."""
+    """The least order whose chunks hold this many words."""
     return next(order for order in range(64) if UNIT << order >= words)
 
 
@@ -206,7 +206,7 @@ class World:
         return None
 
     def place(self, classes, words):
-        """The chunk for a class of so many words in the loader with these classes."""
+        """The chunk for a class of this many words in the loader with these classes."""
         chain, need = chain_of(classes), order_for(words)
         if chain and chain[-1][1] + words <= UNIT << chain[-1][0][1]:
             return chain[-1][0]
@@ -228,7 +228,7 @@ class World:
     # -- commands
 
     def accept(self, loaders, refusal, records=(), left=(), slots=1):
-        """Of a command that writes records into these chunks, leaves chunks, and takes so many
+        """Of a command that writes records into these chunks, leaves chunks, and takes this many
         slots."""
         if self.told:
             return "refused 10"
@@ -242,7 +242,7 @@ class World:
         return f"number {self.number()}"
 
     def is_full(self, slots):
-        """Whether what lives leaves no room for so many slots more."""
+        """Whether what lives leaves no room for this many slots more."""
         return rows_in(self.loaders()) + slots > self.slots // 2
 
     def loader(self, name):
@@ -676,7 +676,7 @@ def before_checkpoint(is_other_open):
 
 
 def ends(lengths, fills):
-    """The ways in which a walk goes on: opened again, or behind a crash."""
+    """The ways in which a walk goes on: opened again, or after a crash."""
     yield ("reopen",)
     for length in lengths:
         for fill in fills:
@@ -684,7 +684,7 @@ def ends(lengths, fills):
 
 
 def stop(simulation, device_calls, calls, stored, end):
-    """The group is stopped behind so many of its device calls, the last of which fails where bytes
+    """The group is stopped after this many of its device calls, the last of which fails where bytes
     are given that it stores; whether it is there then."""
     for call in range(calls):
         if stored is not None and call == calls - 1:
@@ -706,7 +706,7 @@ def check_walk(checks, program, simulation, device_calls, calls, stored, end):
     number, at_end = simulation.world.number(), len(device_calls)
     there = stop(simulation, device_calls, calls, stored, end)
     simulation.add("look", b"app", b"A")
-    what = (f"a define of {at_end} calls stopped behind {calls}, {stored} bytes stored of the "
+    what = (f"a define of {at_end} calls stopped after {calls}, {stored} bytes stored of the "
             f"last, {end[0]}")
     due = compare(checks, program, simulation, what)
     wanted = [f"opened {number}", "class 16"] if there else [f"opened {number - 1}", "none"]
@@ -789,7 +789,7 @@ def check_move(checks, program, simulation, device_calls, calls, stored, end, go
     number = simulation.world.number()
     found = [(name, words) for name, (words, _) in simulation.world.loaders()[b"app"].items()]
     there = stop(simulation, device_calls, calls, stored, end)
-    what = (f"a move of {len(device_calls)} calls stopped behind {calls}, {stored} bytes stored of "
+    what = (f"a move of {len(device_calls)} calls stopped after {calls}, {stored} bytes stored of "
             f"the last, {end[0]}")
     check_found(checks, program, simulation, what, [f"opened {number - 1 + there}"], found)
     again = simulation.add("tighten", b"app")
@@ -878,8 +878,8 @@ def check_move_grows(checks, program):
 
 
 def check_trims(checks, program):
-    """A trim stopped behind each of its calls leaves what is stored; it can be made again, and
-    classes be stored behind it."""
+    """A trim stopped after each of its calls leaves what is stored; it can be made again, and
+    classes be stored after it."""
     base = 4096 + 128 * 256
     walks = list(ends((0, base, base + 100, base + 8191, 1 << 40), (b"", b"\xa5", b"\xa5" * 9000)))
     for end in walks:
@@ -891,7 +891,7 @@ def check_trims(checks, program):
                     simulation.add("fault", 0)
                 simulation.add("advance")
             simulation.add(*end)
-            what = f"a trim stopped behind {calls} calls, the last failed: {fails}, {end[0]}"
+            what = f"a trim stopped after {calls} calls, the last failed: {fails}, {end[0]}"
             checks.check(simulation.due == "opened 3", f"{what}: the model")
             simulation.add("trim")
             while simulation.add("advance") == "working":
@@ -1008,7 +1008,7 @@ def slot(kind, **fields):
 
 
 def check_disk(checks, program):
-    """The file behind one loader, by docs/REGION.md, and behind a class a root longer."""
+    """The file after one loader, by docs/REGION.md, and after a class a root longer."""
     superblock = b"CMCACHE1" + struct.pack("<4I", 1, 3, 2, 256)
     superblock += bytes(4095 - len(superblock)) + b"\xa5"
     head = slot(0x01, at_0_1=0xa5, at_2_2=2, at_8_8=1)
@@ -1029,17 +1029,17 @@ def check_disk(checks, program):
         path = os.path.join(folder, "disk")
         _, status, _ = run(program, lines, "--disk", path)
         with open(path, "rb") as held:
-            checks.check(status == 0 and held.read() == file, "the file behind one loader")
+            checks.check(status == 0 and held.read() == file, "the file after one loader")
         words = b"loader", b"unload"
         run(program, b"geometry 3 2 256\n" + b"".join(
             word + b" " + b"m" * 49 + b"\nseal\n" + b"advance\n" * 4 for word in words),
             "--disk", path)
         with open(path, "rb") as held:
-            checks.check(held.read() == long_file, "the file behind a loader of a long name")
+            checks.check(held.read() == long_file, "the file after a loader of a long name")
         run(program, lines + b"define app " + class_a().hex().encode()
             + b"\nseal\nadvance\nfault 0\n", "--disk", path)
         with open(path, "rb") as held:
-            checks.check(held.read() == file + bytes(8192), "the file behind one loader and a root")
+            checks.check(held.read() == file + bytes(8192), "the file after one loader and a root")
         check_places(checks, program, path)
         _, status, errors = run(program, lines, "--disk", os.path.join(folder, "no", "disk"))
         checks.check(status == 3 and errors, f"a path in no folder: status {status}")
@@ -1051,7 +1051,7 @@ def check_disk(checks, program):
 
 
 def check_places(checks, program, path):
-    """Where the classes of a loader lie before its last chunk moves, and behind that."""
+    """Where the classes of a loader lie before its last chunk moves, and after that."""
     simulation = before_move(ONE_MOVES)
     for at in 256, 128:
         run(program, simulation.text(), "--disk", path)

@@ -1,6 +1,6 @@
 #!/usr/bin/env python3
 """Looks at the sources of the repository at the current folder: prints a line for each file with a
-line of more than 100 columns, for each planted bug whose old text doesn't stand exactly once in its
+line of more than 100 columns, for each mutant whose old text doesn't stand exactly once in its
 file, for each law that a crate passes on and no other cites, or the other way round, and for each
 file of lemmas that doesn't say what it serves; and last how many were looked at: 'N passed, M
 failed'.
@@ -51,7 +51,7 @@ def is_planted(edit, crate):
 
 
 def planted():
-    """Each planted bug of the gate and of the audit names what is there."""
+    """Each mutant of the gate and of the audit names what is there."""
     for edit in sorted(
         [*Path("crates").glob("*/must-fail/*.edit"), *Path("audit").glob("*/*.edit")]):
         yield (is_planted(edit, Path("crates") / edit.parts[1]),

@@ -1,6 +1,6 @@
 #!/usr/bin/env bash
 # What no compiler looks at in the sources: lines stay within 100 columns, those of scripts too, and
-# the planted bugs of the audit still name text that is there. Needs python3.
+# the mutants of the audit still name text that is there. Needs python3.
 set -u
 cd "$(dirname "$0")/.." || exit 1
 exec python3 tests/sources.py

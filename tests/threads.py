@@ -35,7 +35,7 @@ ROWS = {
 }
 GEOMETRY = oracle.Geometry(top=3, roots=3, slots=256)
 MOST_LINES = 100
-# Of so many scripts one is run on a device that fails.
+# Of this many scripts one is run on a device that fails.
 FAILING = 4
 # Lines that are refused whatever the cache holds.
 BAD_LINES = [b"", b"find app", b"loader " + runs.TOO_LONG, b"define app 0", b"define app cafebabe",
@@ -123,7 +123,7 @@ class Bench:
             self.run(name, due, workers)
 
     def fail_one(self, rng, name, script):
-        """A script on a device that fails at one of its calls, and the rest of it behind that."""
+        """A script on a device that fails at one of its calls, and the rest of it after that."""
         calls = device.device_calls(script.calls)
         fails = rng.randrange(1, len(calls) + 1)
         length = len(calls[fails - 1][2])
@@ -141,7 +141,7 @@ class Bench:
         wanted = runs.answers(cache.reopened(), rest)
         told = runs.run(self.program, ["apply", self.path, "--workers", "2"], rest)
         self.checks.check(f"{name}: the rest", told == (*wanted, ""), f"{told!s:.200}")
-        runs.settle(self.checks, f"{name}: the file behind it", self.path, cache, None)
+        runs.settle(self.checks, f"{name}: the file after it", self.path, cache, None)
 
 
 def is_answered_at_once(program):

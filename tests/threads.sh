@@ -3,9 +3,9 @@
 # device call fails, and answers each line before the next is there; a run with workers that is
 # killed keeps what it acknowledged; and threads that define, find and unload in one file at once
 # are answered as one thread would be, and leave there what they were answered.
-# SCRIPTS=N runs so many scripts by chance instead of 1,000, KILLS=N kills so many runs instead of
-# 50, SOAK=N has the threads go on for so many seconds instead of one, SEED=N takes other scripts
-# and moments. Needs a C compiler and Python 3.
+# SCRIPTS=N runs N random scripts instead of 1,000, KILLS=N kills N runs instead of 50, SOAK=N has
+# the threads work for N seconds instead of one, SEED=N takes other scripts and moments. Needs a C
+# compiler and Python 3.
 set -u
 cd "$(dirname "$0")/.." || exit 1
 . tests/lib.sh
