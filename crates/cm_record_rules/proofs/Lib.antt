@@ -1,0 +1,10 @@
+mod RunBytes
+mod AttributesThere
+mod Tags
+mod ConstantsThere
+mod Whole
+mod Iterators
+mod Counted
+mod Slots
+mod Searches
+mod KeptRules

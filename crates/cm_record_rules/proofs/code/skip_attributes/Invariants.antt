@@ -1,0 +1,8 @@
+use Rattle.std.proofs.Common.{◌≡◌, ◌-◌}
+use Rattle.cm_attributes.specs.Contents.{past_many, past_counted, past_attribute}
+use Rattle.cm_record_rules.proofs.code.skip_attributes.Given as goal
+
+abbrev pub invariant-loop : goal.invariant-loop
+invariant-loop l =
+    past_many (past_attribute l.class) (l.count - l.counter) l.rest
+    ≡ past_counted (past_attribute l.class) l.bytes

@@ -1,0 +1,24 @@
+use Rattle.cm_attributes.specs.Contents.{past_counted, past_parts, inner_class}
+use Rattle.cm_record_rules.proofs.Counted.{rows_goes_on, rows_refuse, rows_end}
+use Rattle.cm_record_rules.proofs.parts.skip_inner_classes.Goals as goal
+
+pub returns-in_err-rest : goal.returns-in_err-rest
+returns-in_err-rest c =
+    rw c.from_residual-in_err-rest.ensures
+    (rows_refuse (past_parts c.args.class.now inner_class) c.in_ok-count.count
+    c.loop.counter c.loop.rest.now
+    (past_counted (past_parts c.args.class.now inner_class) c.args.bytes.now)
+    c.loop-test.true c.in_err-rest.ensures c.loop.invariant)
+
+pub loop-preserved : goal.loop-preserved
+loop-preserved c =
+    rows_goes_on (past_parts c.args.class.now inner_class) c.in_ok-count.count c.loop.counter
+    c.loop.rest.now c.in_ok-rest.rest.now
+    (past_counted (past_parts c.args.class.now inner_class) c.args.bytes.now)
+    c.loop-test.true c.in_ok-rest.ensures c.loop.invariant
+
+pub returns : goal.returns
+returns c = rows_end (past_parts c.args.class.now inner_class) c.in_ok-count.count
+    c.loop.counter c.loop.rest.now
+    (past_counted (past_parts c.args.class.now inner_class) c.args.bytes.now) c.loop-test.false
+    c.loop.invariant

@@ -1,0 +1,85 @@
+//! The content of a Code (JVMS 4.7.3).
+ghost use Rattle.std.specs.Prelude.{◌≡◌, option_copied, option_map};
+ghost use Rattle.cm_attributes.specs.Contents.{handler_of, is_handler, past_handler};
+ghost use Rattle.cm_attributes.specs.Contents.{past_attribute, past_counted, code_of, past_code};
+
+use crate::laid::LaidClass;
+use crate::numbers::{read_u2, read_u4, skip};
+use crate::parts::{skip_one, skip_two_numbers};
+use cm_class::Kind;
+
+/// What stands behind a handler, which guards some of the code's bytes, lies in them, and catches a
+/// class or all.
+fn skip_handler<'b>(class: &LaidClass, size: u32, bytes: &'b [u8]) -> Option<&'b [u8]>
+    ensures { option_copied result ≡ past_handler class.now size bytes.now }
+{
+    let (start, rest) = read_u2(bytes)?;
+    let (end, rest) = read_u2(rest)?;
+    let (handler, rest) = read_u2(rest)?;
+    let (catch, rest) = read_u2(rest)?;
+    if start < end
+        && u32::from(end) <= size
+        && u32::from(handler) < size
+        && (catch == 0 || class.names(catch, Kind::Class))
+    {
+        Some(rest)
+    } else {
+        None
+    }
+}
+
+/// What stands behind a count, and that many handlers.
+fn skip_handlers<'b>(class: &LaidClass, size: u32, bytes: &'b [u8]) -> Option<&'b [u8]>
+    ensures { option_copied result ≡ past_counted (past_handler class.now size) bytes.now }
+{
+    let (count, mut rest) = read_u2(bytes)?;
+    for _ in 0..count {
+        rest = skip_handler(class, size, rest)?;
+    }
+    Some(rest)
+}
+
+/// What stands behind an attribute whose name is a Utf8.
+#[tactic(auto, unfolding(cm_attributes::specs::Contents::past_parts, crate::specs::Parts::past_tests))]
+fn skip_attribute<'b>(class: &LaidClass, bytes: &'b [u8]) -> Option<&'b [u8]>
+    ensures { option_copied result ≡ past_attribute class.now bytes.now }
+{
+    let rest = skip_one(class, Kind::Utf8, bytes)?;
+    let (len, rest) = read_u4(rest)?;
+    skip(len as usize, rest)
+}
+
+/// What stands behind a count, and that many attributes.
+fn skip_attributes<'b>(class: &LaidClass, bytes: &'b [u8]) -> Option<&'b [u8]>
+    ensures { option_copied result ≡ past_counted (past_attribute class.now) bytes.now }
+{
+    let (count, mut rest) = read_u2(bytes)?;
+    for _ in 0..count {
+        rest = skip_attribute(class, rest)?;
+    }
+    Some(rest)
+}
+
+/// How many bytes the code has, 1 to 65,535, and what stands behind them.
+#[tactic(auto, unfolding(cm_attributes::specs::Contents::code_of))]
+fn read_code(bytes: &[u8]) -> Option<(u32, &[u8])>
+    ensures { option_map (λ x. (x.0, x.1.now)) result ≡ code_of bytes.now }
+{
+    let (size, rest) = read_u4(bytes)?;
+    if !(0 < size && size <= 65535) {
+        return None;
+    }
+    let rest = skip(size as usize, rest)?;
+    Some((size, rest))
+}
+
+/// What stands behind stack, locals, code, handlers and attributes.
+#[tactic(auto, unfolding(cm_attributes::specs::Contents::past_parts, crate::specs::Parts::past_tests))]
+pub(crate) fn skip_code<'b>(class: &LaidClass, bytes: &'b [u8]) -> Option<&'b [u8]>
+    ensures { option_copied result ≡ past_code class.now bytes.now }
+{
+    let rest = skip_two_numbers(bytes)?;
+    let (size, rest) = read_code(rest)?;
+    let rest = skip_handlers(class, size, rest)?;
+    skip_attributes(class, rest)
+}

@@ -1,0 +1,21 @@
+//! Whether the class of a record keeps the class rules, judged over the record's words.
+#![tactic(auto)]
+
+mod attributes;
+mod bootstrap;
+mod code;
+mod constant;
+mod constants;
+mod contained;
+mod contents;
+mod fields;
+mod flags;
+mod itself;
+mod known;
+mod laid;
+mod members;
+mod methods;
+mod names;
+mod numbers;
+mod own;
+mod parts;

@@ -1,0 +1,126 @@
+//! What an index of the constant pool names, and whether that is a name or a descriptor.
+
+use crate::laid::LaidClass;
+use cm_class::{Constant, Kind};
+use cm_names::{
+    begins_with, is_class_name, is_field_descriptor, is_method_name, is_unqualified_name,
+    method_units,
+};
+
+impl<'a> LaidClass<'a> {
+    ghost use Rattle.std.specs.Prelude.{◌≡◌};
+    ghost use Rattle.std.specs.Option.{option_map_or};
+    ghost use Rattle.cm_class.specs.Names.{constant_named, utf8, names_utf8, class_name_index};
+    ghost use Rattle.cm_class.specs.Names.{class_name, name_index_at, descriptor_index_at};
+    ghost use Rattle.cm_class.specs.Names.{pair_index, reference_name};
+    ghost use Rattle.cm_names.specs.Forms.{is_class_name, is_unqualified_name, is_method_name};
+    ghost use Rattle.cm_names.specs.Forms.{is_field_descriptor, is_array_descriptor};
+    ghost use Rattle.cm_names.specs.Forms.{is_method_descriptor, method_units};
+
+    /// Whether an index names a Utf8 of these bytes.
+    pub(crate) fn names_utf8(&self, index: u16, bytes: &[u8]) -> bool
+        ensures { result ≡ names_utf8 self.now index bytes.now }
+    {
+        self.names(index, Kind::Utf8) && self.utf8(index) == bytes
+    }
+
+    /// Index of a class's name; 0 where there is no class.
+    fn class_name_index(&self, index: u16) -> u16
+        ensures { result ≡ option_map_or class_name_index (constant_named self.now index) 0 }
+    {
+        match self.constant(index) {
+            Some(Constant::Class { name }) => name,
+            _ => 0,
+        }
+    }
+
+    /// The name of the class that an index names; none where it leads to no Utf8.
+    pub(crate) fn class_name(&self, index: u16) -> &'a [u8]
+        ensures { result.now ≡ class_name self.now index }
+    {
+        self.utf8(self.class_name_index(index))
+    }
+
+    /// The indexes of the name and of the descriptor in the NameAndType that an index names; both 0
+    /// where it names none.
+    pub(crate) fn name_and_type(&self, index: u16) -> (u16, u16)
+        ensures name { result.0 ≡ name_index_at self.now index }
+        ensures descriptor { result.1 ≡ descriptor_index_at self.now index }
+    {
+        match self.constant(index) {
+            Some(Constant::NameAndType { name, descriptor }) => (name, descriptor),
+            _ => (0, 0),
+        }
+    }
+
+    /// Index of the NameAndType that a reference to a member names; 0 where there is none.
+    fn pair_index(&self, index: u16) -> u16
+        ensures { result ≡ option_map_or pair_index (constant_named self.now index) 0 }
+    {
+        match self.constant(index) {
+            Some(
+                Constant::Fieldref { name_and_type, .. }
+                | Constant::Methodref { name_and_type, .. }
+                | Constant::InterfaceMethodref { name_and_type, .. },
+            ) => name_and_type,
+            _ => 0,
+        }
+    }
+
+    /// The name of the field or method to which the reference at an index refers; no bytes where
+    /// there is none.
+    pub(crate) fn reference_name(&self, index: u16) -> &'a [u8]
+        ensures { result.now ≡ reference_name self.now index }
+    {
+        self.utf8(self.name_and_type(self.pair_index(index)).0)
+    }
+
+    /// Whether the Utf8 at an index is a class name.
+    pub(crate) fn names_class_name(&self, index: u16) -> bool
+        ensures { result ≡ is_class_name (utf8 self.now index) }
+    {
+        is_class_name(self.utf8(index))
+    }
+
+    /// Whether the Utf8 at an index is an unqualified name.
+    pub(crate) fn names_unqualified_name(&self, index: u16) -> bool
+        ensures { result ≡ is_unqualified_name (utf8 self.now index) }
+    {
+        is_unqualified_name(self.utf8(index))
+    }
+
+    /// Whether the Utf8 at an index is a method's name.
+    pub(crate) fn names_method_name(&self, index: u16) -> bool
+        ensures { result ≡ is_method_name (utf8 self.now index) }
+    {
+        is_method_name(self.utf8(index))
+    }
+
+    /// Whether the Utf8 at an index is a field descriptor.
+    pub(crate) fn names_field_descriptor(&self, index: u16) -> bool
+        ensures { result ≡ is_field_descriptor (utf8 self.now index) }
+    {
+        is_field_descriptor(self.utf8(index))
+    }
+
+    /// The units of the method descriptor at an index.
+    pub(crate) fn method_units(&self, index: u16) -> Option<u8>
+        ensures { result ≡ method_units (utf8 self.now index) }
+    {
+        method_units(self.utf8(index))
+    }
+
+    /// Whether the Utf8 at an index is a method descriptor.
+    pub(crate) fn names_method_descriptor(&self, index: u16) -> bool
+        ensures { result ≡ is_method_descriptor (utf8 self.now index) }
+    {
+        self.method_units(index).is_some()
+    }
+
+    /// Whether the Utf8 at an index is the descriptor of an array.
+    pub(crate) fn names_array_descriptor(&self, index: u16) -> bool
+        ensures { result ≡ is_array_descriptor (utf8 self.now index) }
+    {
+        begins_with(b'[', self.utf8(index)) && self.names_field_descriptor(index)
+    }
+}
