@@ -73,3 +73,11 @@ module _ (all bytes : List ℕ) where
   next_member (suc n) (a ∷ b ∷ words) some h =
       let fewer : n ≡ suc n - 1 = omega arith in
       ap (λ k. member_in all bytes a b ∷ members_in all bytes k words) fewer
+
+  pub members_count : (n : ℕ) (words : List ℕ)
+      → length (members_in all bytes n words) ≡ min n (length words / 2)
+  unfolding members_in
+  members_count zero words = omega arith
+  members_count (suc n) [] = omega arith
+  members_count (suc n) (a ∷ []) = omega arith
+  members_count (suc n) (a ∷ b ∷ words) = omega (arith, members_count n words)

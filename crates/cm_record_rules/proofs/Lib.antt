@@ -8,3 +8,6 @@ mod Counted
 mod Slots
 mod Searches
 mod KeptRules
+mod JudgedRules
+mod Filled
+mod FirstMembers

@@ -11,6 +11,7 @@ mod contents;
 mod fields;
 mod flags;
 mod itself;
+mod judge;
 mod known;
 mod laid;
 mod members;
@@ -19,3 +20,7 @@ mod names;
 mod numbers;
 mod own;
 mod parts;
+mod scratch;
+mod twins;
+
+pub use judge::judge_words;

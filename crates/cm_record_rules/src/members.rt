@@ -90,6 +90,26 @@ impl<'a> LaidMembers<'a> {
             rest: words_from(words, at),
         }
     }
+
+    /// How many there are.
+    pub(crate) fn len(&self) -> usize
+        ensures len { result ≡ length self.now }
+        ensures short { length self.now < 2 ^ 16 }
+    {
+        usize::from(self.count).min(self.rest.len() / 2)
+    }
+
+    /// The same ones, to go over.
+    pub(crate) fn iter(&self) -> LaidMembers<'a>
+        ensures { result ≡ self.now }
+    {
+        LaidMembers {
+            count: self.count,
+            all: self.all,
+            bytes: self.bytes,
+            rest: self.rest,
+        }
+    }
 }
 
 impl<'a> Iterator for LaidMembers<'a> {

@@ -1,0 +1,49 @@
+ghost use Rattle.std.specs.Prelude.{◌≡◌, true, None};
+ghost use Rattle.cm_class.specs.declared.class_file.ClassFile.{ClassFile};
+ghost use Rattle.cm_record_layout.specs.Layout.{IsRecord, IsRecordOf};
+ghost use Rattle.cm_rules.specs.Fault.{fault};
+
+use crate::constants::constants_keep;
+use crate::fields::fields_keep;
+use crate::itself::{interfaces_keep, super_keeps, this_keeps};
+use crate::laid::LaidClass;
+use crate::methods::methods_keep;
+use crate::own::attributes_keep;
+use crate::scratch::fill;
+use crate::twins::no_twins;
+
+/// Whether the class is seen to keep all rules.
+#[tactic(auto, using(crate::proofs::JudgedRules::no_fault_judged))]
+fn keeps_rules(class: &LaidClass) -> bool
+    ensures { result ≡ true → fault class.now ≡ None }
+{
+    constants_keep(class)
+        && this_keeps(class)
+        && super_keeps(class)
+        && interfaces_keep(class)
+        && fields_keep(class)
+        && methods_keep(class)
+        && attributes_keep(class)
+        && no_twins(class, &class.fields())
+        && no_twins(class, &class.methods())
+}
+
+/// Whether the class of a record is seen to keep all class rules: a quick test that promises only
+/// its `true`, over the record's words, without the class. With any other answer the class may keep
+/// them too: `first_fault` of `cm_rules` tells.
+///
+/// The scratch is for this call alone, and one serves for any number of records: it grows to the
+/// bytes of the words and of a byte for each constant. Where that memory can't be had the answer is
+/// `false`.
+pub fn judge_words(scratch: &mut Vec<u8>, words: &[u64]) -> bool
+    requires { IsRecord words.now }
+    ensures { result ≡ true → (c : ClassFile) → IsRecordOf c words.now → fault c ≡ None }
+{
+    match fill(scratch, words) {
+        Ok(()) => {
+            let (bytes, tags) = scratch.split_at(8 * words.len());
+            keeps_rules(&LaidClass::new(words, bytes, tags))
+        }
+        Err(_) => false,
+    }
+}

@@ -1,0 +1,65 @@
+//! The bytes of a record's words, and the tags of its constants.
+ghost use Rattle.std.specs.Prelude.{◌≡◌, ◌++◌, ◌%◌, ◌^◌, false, OnOk, if◌then◌else◌};
+ghost use Rattle.cm_record_layout.specs.Packing.{word_bytes};
+ghost use Rattle.cm_record_layout.specs.Layout.{IsRecord};
+ghost use Rattle.cm_record_rules.specs.Laid.{class_in, tags_of, tags_from};
+ghost use Rattle.cm_record_rules.specs.Laid.{is_wide_tag as is_wide_tag_of};
+
+use crate::attributes::words_from;
+use crate::constant::{first_words, word_at};
+use cm_record_layout::{HEAD_COUNTS, SLOT_1_AT, bytes_of, first};
+use std::alloc::AllocError;
+
+/// The tag in a directory word; 0 where that is the second of a Long or a Double.
+fn tag_in(word: u64, is_second: bool) -> u8
+    ensures { result ≡ (if is_second then 0 else word % 2 ^ 8) }
+{
+    if is_second { 0 } else { (word % 256) as u8 }
+}
+
+/// The tag of a Long or a Double.
+fn is_wide_tag(tag: u8) -> bool
+    ensures { result ≡ is_wide_tag_of tag }
+{
+    tag == 5 || tag == 6
+}
+
+/// Has nothing but the bytes of the words in the scratch.
+fn write_words(scratch: &mut Vec<u8>, words: &[u64]) -> Result<(), AllocError>
+    ensures { OnOk result (scratch.new.items ≡ word_bytes words.now) }
+{
+    scratch.clear();
+    for word in words {
+        scratch.extend_from_slice(&bytes_of(*word))?;
+    }
+    Ok(())
+}
+
+/// Puts the tags of the directory's words behind what the scratch has.
+fn write_tags(scratch: &mut Vec<u8>, directory: &[u64]) -> Result<(), AllocError>
+    ensures { OnOk result
+        (scratch.new.items ≡ scratch.old.items ++ tags_from false directory.now) }
+{
+    let mut is_second = false;
+    for word in directory {
+        let tag = tag_in(*word, is_second);
+        scratch.push(tag)?;
+        is_second = is_wide_tag(tag);
+    }
+    Ok(())
+}
+
+/// Has the bytes of a record's words in the scratch, and behind them the tags of its constants by
+/// their indexes, from 0 on.
+pub(crate) fn fill(scratch: &mut Vec<u8>, words: &[u64]) -> Result<(), AllocError>
+    requires { IsRecord words.now }
+    ensures { OnOk result
+        (scratch.new.items ≡ word_bytes words.now ++ tags_of (class_in words.now)) }
+{
+    write_words(scratch, words)?;
+    scratch.push(0)?;
+    let count = first(word_at(words, HEAD_COUNTS)).saturating_sub(1);
+    let directory = first_words(words_from(words, SLOT_1_AT), usize::from(count));
+    write_tags(scratch, directory)?;
+    Ok(())
+}
