@@ -1,9 +1,10 @@
 -- The scratch of a judge, filled one after another.
--- For `fill`, `write_tags`, `write_words`.
+-- For `copy_words`, `fill`, `write_tags`.
 use Rattle.std.proofs.Common.{◌≡◌, ◌<◌, ◌≤◌, ◌+◌, ◌%◌, ◌^◌, ℕ, Bool, true, false, List, [], ◌∷◌, ◌++◌}
 use Rattle.std.proofs.Common.{length, take, drop, get_or, cond, refl, sym, ◌∙◌, ap, arith}
 use Rattle.std.proofs.Common.{append_assoc, length-append, ◌*◌}
-use Rattle.std.proofs.lemmas.List.{take_more, drop_more, drop_all, append-nil}
+use Rattle.std.proofs.lemmas.List.{take_more, drop_more, drop_all, append-nil, length-take-le, take_at}
+use Rattle.std.proofs.lemmas.List.{drop_at, drop-drop}
 use Rattle.std.proofs.lemmas.Grind.{flat_map-append}
 use Rattle.cm_record_layout.specs.Packing.{bytes_of, word_bytes}
 use Rattle.cm_record_layout.proofs.{length-bytes_of}
@@ -19,12 +20,28 @@ length-word_bytes (w ∷ words) =
       length-word_bytes words,
     )
 
-pub bytes_more : (words : List ℕ) (i : ℕ) → i < length words
-    → word_bytes (take (i + 1) words) ≡ word_bytes (take i words) ++ bytes_of (get_or words i 0)
-bytes_more words i lt =
-    ap word_bytes (take_more words i 0 lt)
-    ∙ (flat_map-append bytes_of (take i words) (get_or words i 0 ∷ [])
-    ∙ ap (λ w. word_bytes (take i words) ++ w) (append-nil (bytes_of (get_or words i 0))))
+-- one word more is written
+pub write_step : (out start words : List ℕ) (i word : ℕ)
+    → out ≡ word_bytes (take i words) ++ drop (8 * i) start → i < length words
+    → word ≡ get_or words i 0
+    → take (8 * i) out ++ bytes_of word ++ drop (8 * i + 8) out ≡ word_bytes (take (i + 1) words)
+    ++ drop (8 * (i + 1)) start
+write_step out start words i word e lt ew =
+    let done = word_bytes (take i words) in
+    let rest = drop (8 * i) start in
+    let size : length done ≡ 8 * i = length-word_bytes (take i words) ∙ ap
+    (λ n. 8 * n) (length-take-le i words (omega (arith, lt))) in
+    let front : take (8 * i) out ≡ done = ap (take (8 * i)) e ∙ take_at done rest (8 * i) size in
+    let back : drop (8 * i + 8) out ≡ drop (8 * (i + 1)) start =
+    sym (drop-drop 8 (8 * i) out)
+    ∙ (ap (drop 8) (ap (drop (8 * i)) e ∙ drop_at done rest (8 * i) size)
+    ∙ (drop-drop 8 (8 * i) start ∙ ap (λ n. drop n start) (omega arith))) in
+    let more : word_bytes (take (i + 1) words) ≡ done ++ bytes_of word =
+    ap word_bytes (take_more words i 0 lt ∙ ap
+    (λ w. take i words ++ w ∷ []) (sym ew))
+    ∙ (flat_map-append bytes_of (take i words) (word ∷ [])
+    ∙ ap (λ w. done ++ w) (append-nil (bytes_of word))) in
+    rw (front, back, more) refl
 
 one_tag : (second : Bool) (word : ℕ) (words : List ℕ)
     → tags_from second (word ∷ words)

@@ -1,7 +1,7 @@
 -- The class of a record, part by part.
 -- For `LaidClass`.
 use Rattle.std.proofs.Common.{◌≡◌, ◌≤◌, ◌+◌, ◌-◌, ◌*◌, ℕ, List, [], ◌∷◌, ◌++◌, length, take, drop}
-use Rattle.std.proofs.Common.{get_or, false, Option, Some, None, refl, sym, ◌∙◌, ap, subst, arith}
+use Rattle.std.proofs.Common.{get_or, Bool, true, false, Option, Some, None, refl, sym, ◌∙◌, ap, subst, arith}
 use Rattle.std.specs.Prelude.{unwrap_or, option_map}
 use Rattle.std.specs.Option.{option_map_or}
 use Rattle.std.proofs.lemmas.List.{take_at}
@@ -9,7 +9,8 @@ use Rattle.cm_class.specs.declared.class_file.ClassFile.{ClassFile}
 use Rattle.cm_class.specs.declared.constant.Constant.TheVariants as constant
 use Rattle.cm_class.specs.declared.kind.Kind.{Kind}
 use Rattle.cm_class.specs.declared.kind.Kind.TheVariants as kinds
-use Rattle.cm_class.specs.Names.{constant_named, utf8, utf8_in}
+use Rattle.cm_class.specs.Names.{constant_named, utf8, utf8_in, name_index, descriptor_index}
+use Rattle.cm_class.specs.Names.{name_index_at, descriptor_index_at}
 use Rattle.cm_class.specs.Reading.{tag_of}
 use Rattle.cm_class.specs.Spelling.{HasSpelling, ClassConstant}
 use Rattle.cm_record_layout.specs.Packing.{word_bytes, first_of, second_of, third_of, fourth_of}
@@ -288,6 +289,14 @@ module _ (c : ClassFile) (words bytes tags : List ℕ) (laid : IsLaid words byte
       ap (λ o. option_map_or utf8_in o [])
       (its_some index tag word (get_or words (9 + index) 0) kinds.Utf8 there some here refl)
 
+  -- the indexes of a NameAndType
+  pub its_pair : (index tag word : ℕ) → tag ≡ get_or (tags_of c) index 0 → tag ≡ 12
+      → word ≡ get_or words (8 + index) 0
+      → Some (constant.NameAndType (third_of word) (fourth_of word)) ≡ constant_named c index
+  its_pair index tag word there twelve here =
+      let some : Some kinds.NameAndType ≡ tag_of tag = ap tag_of (sym twelve) in
+      its_some index tag word (get_or words (9 + index) 0) kinds.NameAndType there some here refl
+
 -- no bytes of another constant
 no_bytes : (o : Option ClassConstant) → (tag_named o ≡ 1 → ⊥) → [] ≡ option_map_or utf8_in o []
 no_bytes None h = refl
@@ -310,3 +319,56 @@ pub no_utf8 : (c : ClassFile) (index tag : ℕ) → tag ≡ get_or (tags_of c) i
     → (tag ≡ 1 → ⊥) → [] ≡ utf8 c index
 no_utf8 c index tag there other =
     no_bytes (constant_named c index) (λ one. other (there ∙ (tag_at_index c index ∙ one)))
+
+-- no indexes of another constant
+no_indexes : (o : Option ClassConstant) → (tag_named o ≡ 12 → ⊥)
+    → (0 ≡ option_map_or name_index o 0) × (0 ≡ option_map_or descriptor_index o 0)
+no_indexes None h = (refl, refl)
+no_indexes (Some (constant.Utf8 text)) h = (refl, refl)
+no_indexes (Some (constant.Integer bits)) h = (refl, refl)
+no_indexes (Some (constant.Float bits)) h = (refl, refl)
+no_indexes (Some (constant.Long bits)) h = (refl, refl)
+no_indexes (Some (constant.Double bits)) h = (refl, refl)
+no_indexes (Some (constant.Class name)) h = (refl, refl)
+no_indexes (Some (constant.String text)) h = (refl, refl)
+no_indexes (Some (constant.Fieldref a b)) h = (refl, refl)
+no_indexes (Some (constant.Methodref a b)) h = (refl, refl)
+no_indexes (Some (constant.InterfaceMethodref a b)) h = (refl, refl)
+no_indexes (Some (constant.NameAndType a b)) h = absurd (h refl)
+no_indexes (Some (constant.MethodHandle a b)) h = (refl, refl)
+no_indexes (Some (constant.MethodType descriptor)) h = (refl, refl)
+no_indexes (Some (constant.InvokeDynamic a b)) h = (refl, refl)
+
+pub no_pair : (c : ClassFile) (index tag : ℕ) → tag ≡ get_or (tags_of c) index 0
+    → (tag ≡ 12 → ⊥) → (0 ≡ name_index_at c index) × (0 ≡ descriptor_index_at c index)
+no_pair c index tag there other =
+    no_indexes (constant_named c index) (λ same. other (there ∙ (tag_at_index c index ∙ same)))
+
+-- what is asked of a Utf8 alone
+of_a_utf8 : (test : ClassConstant → Bool) (form : List ℕ → Bool)
+    → ((text : List ℕ) → test (constant.Utf8 text) ≡ form text)
+    → (o : Option ClassConstant) → tag_named o ≡ 1
+    → form (option_map_or utf8_in o []) ≡ option_map_or test o true
+of_a_utf8 test form h None e = absurd (omega arith)
+of_a_utf8 test form h (Some (constant.Utf8 text)) e = sym (h text)
+of_a_utf8 test form h (Some (constant.Integer bits)) e = absurd (omega arith)
+of_a_utf8 test form h (Some (constant.Float bits)) e = absurd (omega arith)
+of_a_utf8 test form h (Some (constant.Long bits)) e = absurd (omega arith)
+of_a_utf8 test form h (Some (constant.Double bits)) e = absurd (omega arith)
+of_a_utf8 test form h (Some (constant.Class name)) e = absurd (omega arith)
+of_a_utf8 test form h (Some (constant.String text)) e = absurd (omega arith)
+of_a_utf8 test form h (Some (constant.Fieldref a b)) e = absurd (omega arith)
+of_a_utf8 test form h (Some (constant.Methodref a b)) e = absurd (omega arith)
+of_a_utf8 test form h (Some (constant.InterfaceMethodref a b)) e = absurd (omega arith)
+of_a_utf8 test form h (Some (constant.NameAndType a b)) e = absurd (omega arith)
+of_a_utf8 test form h (Some (constant.MethodHandle a b)) e = absurd (omega arith)
+of_a_utf8 test form h (Some (constant.MethodType descriptor)) e = absurd (omega arith)
+of_a_utf8 test form h (Some (constant.InvokeDynamic a b)) e = absurd (omega arith)
+
+pub utf8_test : (test : ClassConstant → Bool) (form : List ℕ → Bool)
+    → ((text : List ℕ) → test (constant.Utf8 text) ≡ form text)
+    → (c : ClassFile) (index tag : ℕ) → tag ≡ get_or (tags_of c) index 0 → tag ≡ 1
+    → form (utf8 c index) ≡ option_map_or test (constant_named c index) true
+utf8_test test form h c index tag there one =
+    of_a_utf8 test form h (constant_named c index)
+    (sym (tag_at_index c index) ∙ (sym there ∙ one))

@@ -4,7 +4,7 @@ ghost use Rattle.std.specs.Option.{option_map_or};
 ghost use Rattle.std.specs.List.{list_all};
 ghost use Rattle.cm_class.specs.Names.{constant_named, names_such};
 ghost use Rattle.cm_attributes.specs.Contents.{bootstrap_count};
-ghost use Rattle.cm_constraints.specs.Constants.{utf8_has_form, names_member, names_kinds};
+ghost use Rattle.cm_constraints.specs.Constants.{names_member, names_kinds};
 ghost use Rattle.cm_constraints.specs.Constants.{handle_has_kind, class_has_name, in_slot};
 ghost use Rattle.cm_constraints.specs.Constants.{field_reference_is_formed, names_method};
 ghost use Rattle.cm_constraints.specs.Constants.{is_callable, method_reference_is_formed};
@@ -14,7 +14,7 @@ ghost use Rattle.cm_rules.specs.Kept.{constant_keeps};
 ghost use Rattle.cm_record_rules.specs.Judged.{constant_is_right};
 
 use crate::bootstrap::bootstrap_count;
-use crate::laid::LaidClass;
+use crate::laid::{LaidClass, UTF8_TAG};
 use cm_class::{Bytes, Constant, Kind};
 use cm_names::{begins_with, ends_in_void, has_utf8_form};
 
@@ -216,16 +216,6 @@ fn constant_keeps(class: &LaidClass, methods: u16, constant: &Constant<Bytes>) -
     }
 }
 
-/// Whether a Utf8 has its form (JVMS 4.4.7).
-fn utf8_has_form(constant: &Constant<Bytes>) -> bool
-    ensures { result ≡ utf8_has_form constant.now }
-{
-    match constant {
-        Constant::Utf8(bytes) => has_utf8_form(bytes.as_slice()),
-        _ => true,
-    }
-}
-
 /// Whether the constant at an index keeps all rules; true where none stands.
 #[tactic(auto, unfolding(crate::specs::Judged::constant_is_right))]
 fn is_right_at(class: &LaidClass, methods: u16, index: u16) -> bool
@@ -233,8 +223,11 @@ fn is_right_at(class: &LaidClass, methods: u16, index: u16) -> bool
     ensures { result
         ≡ option_map_or (constant_is_right class.now) (constant_named class.now index) true }
 {
+    if class.tag(index) == UTF8_TAG {
+        return has_utf8_form(class.utf8(index));
+    }
     match class.constant(index) {
-        Some(constant) => { utf8_has_form(&constant) && constant_keeps(class, methods, &constant) }
+        Some(constant) => constant_keeps(class, methods, &constant),
         None => true,
     }
 }

@@ -11,7 +11,10 @@ use cm_record_layout::{
 use std::marker::Model;
 
 /// The tag of a Utf8.
-const UTF8_TAG: u8 = 1;
+pub(crate) const UTF8_TAG: u8 = 1;
+
+/// The tag of a NameAndType.
+const NAME_AND_TYPE_TAG: u8 = 12;
 
 /// A class where it lies, in the words of its record. Contracts see the `ClassFile` that it is.
 #[derive(Drop)]
@@ -36,7 +39,8 @@ impl<'a> Model for LaidClass<'a> {
 
 impl<'a> LaidClass<'a> {
     ghost use Rattle.std.specs.Prelude.{◌≡◌, ◌<◌, ◌^◌, length, get_or};
-    ghost use Rattle.cm_class.specs.Names.{constant_named, names, utf8};
+    ghost use Rattle.cm_class.specs.Names.{constant_named, names, utf8, name_index_at};
+    ghost use Rattle.cm_class.specs.Names.{descriptor_index_at};
     ghost use Rattle.cm_record_layout.specs.Packing.{word_bytes};
     ghost use Rattle.cm_record_layout.specs.Layout.{IsRecord};
     ghost use Rattle.cm_record_rules.specs.Laid.{class_in, tags_of};
@@ -125,6 +129,19 @@ impl<'a> LaidClass<'a> {
             u64::from(upper(word)),
             usize::from(second(word)),
         )
+    }
+
+    /// The indexes of the name and of the descriptor in the NameAndType that an index names; both 0
+    /// where it names none.
+    pub(crate) fn name_and_type(&self, index: u16) -> (u16, u16)
+        ensures name { result.0 ≡ name_index_at self.now index }
+        ensures descriptor { result.1 ≡ descriptor_index_at self.now index }
+    {
+        if self.tag(index) != NAME_AND_TYPE_TAG {
+            return (0, 0);
+        }
+        let word = word_at(self.words, DIRECTORY_AT + usize::from(index));
+        (third(word), fourth(word))
     }
 
     /// The indexes of the interfaces.

@@ -11,8 +11,7 @@ impl<'a> LaidClass<'a> {
     ghost use Rattle.std.specs.Prelude.{◌≡◌};
     ghost use Rattle.std.specs.Option.{option_map_or};
     ghost use Rattle.cm_class.specs.Names.{constant_named, utf8, names_utf8, class_name_index};
-    ghost use Rattle.cm_class.specs.Names.{class_name, name_index_at, descriptor_index_at};
-    ghost use Rattle.cm_class.specs.Names.{pair_index, reference_name};
+    ghost use Rattle.cm_class.specs.Names.{class_name, pair_index, reference_name};
     ghost use Rattle.cm_names.specs.Forms.{is_class_name, is_unqualified_name, is_method_name};
     ghost use Rattle.cm_names.specs.Forms.{is_field_descriptor, is_array_descriptor};
     ghost use Rattle.cm_names.specs.Forms.{is_method_descriptor, method_units};
@@ -39,18 +38,6 @@ impl<'a> LaidClass<'a> {
         ensures { result.now ≡ class_name self.now index }
     {
         self.utf8(self.class_name_index(index))
-    }
-
-    /// The indexes of the name and of the descriptor in the NameAndType that an index names; both 0
-    /// where it names none.
-    pub(crate) fn name_and_type(&self, index: u16) -> (u16, u16)
-        ensures name { result.0 ≡ name_index_at self.now index }
-        ensures descriptor { result.1 ≡ descriptor_index_at self.now index }
-    {
-        match self.constant(index) {
-            Some(Constant::NameAndType { name, descriptor }) => (name, descriptor),
-            _ => (0, 0),
-        }
     }
 
     /// Index of the NameAndType that a reference to a member names; 0 where there is none.

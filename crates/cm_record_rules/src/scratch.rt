@@ -1,6 +1,7 @@
 //! The bytes of a record's words, and the tags of its constants.
-ghost use Rattle.std.specs.Prelude.{◌≡◌, ◌++◌, ◌%◌, ◌^◌, false, OnOk, if◌then◌else◌};
-ghost use Rattle.cm_record_layout.specs.Packing.{word_bytes};
+ghost use Rattle.std.specs.Prelude.{◌≡◌, ◌≤◌, ◌+◌, ◌*◌, ◌++◌, ◌%◌, ◌^◌, false, OnOk};
+ghost use Rattle.std.specs.Prelude.{if◌then◌else◌, length, take, drop};
+ghost use Rattle.cm_record_layout.specs.Packing.{word_bytes, bytes_of as bytes_of_word};
 ghost use Rattle.cm_record_layout.specs.Layout.{IsRecord};
 ghost use Rattle.cm_record_rules.specs.Laid.{class_in, tags_of, tags_from};
 ghost use Rattle.cm_record_rules.specs.Laid.{is_wide_tag as is_wide_tag_of};
@@ -24,14 +25,31 @@ fn is_wide_tag(tag: u8) -> bool
     tag == 5 || tag == 6
 }
 
+/// Writes a word as eight bytes, the lowest first.
+fn write_word(out: &mut [u8], at: usize, word: u64)
+    requires { at + 8 ≤ length out.old }
+    ensures { out.new ≡ take at out.old ++ bytes_of_word word ++ drop (at + 8) out.old }
+{
+    out[at..at + 8].copy_from_slice(&bytes_of(word));
+}
+
+/// Writes words, each as eight bytes with the lowest first.
+fn copy_words(out: &mut [u8], words: &[u64])
+    requires { length out.old ≡ 8 * length words.now }
+    ensures { out.new ≡ word_bytes words.now }
+{
+    for (i, word) in words.iter().enumerate() {
+        write_word(out, 8 * i, *word);
+    }
+}
+
 /// Has nothing but the bytes of the words in the scratch.
 fn write_words(scratch: &mut Vec<u8>, words: &[u64]) -> Result<(), AllocError>
     ensures { OnOk result (scratch.new.items ≡ word_bytes words.now) }
 {
     scratch.clear();
-    for word in words {
-        scratch.extend_from_slice(&bytes_of(*word))?;
-    }
+    scratch.resize(8 * words.len(), 0)?;
+    copy_words(scratch, words);
     Ok(())
 }
 
