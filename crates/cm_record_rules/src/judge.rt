@@ -4,6 +4,7 @@ ghost use Rattle.cm_record_layout.specs.Layout.{IsRecord, IsRecordOf};
 ghost use Rattle.cm_rules.specs.Fault.{fault};
 
 use crate::constants::constants_keep;
+use crate::cost::is_cheap;
 use crate::fields::fields_keep;
 use crate::itself::{interfaces_keep, super_keeps, this_keeps};
 use crate::laid::LaidClass;
@@ -17,7 +18,8 @@ use crate::twins::no_twins;
 fn keeps_rules(class: &LaidClass) -> bool
     ensures { result ≡ true → fault class.now ≡ None }
 {
-    constants_keep(class)
+    is_cheap(class)
+        && constants_keep(class)
         && this_keeps(class)
         && super_keeps(class)
         && interfaces_keep(class)

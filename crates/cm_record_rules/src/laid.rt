@@ -93,6 +93,16 @@ impl<'a> LaidClass<'a> {
         }
     }
 
+    /// The directory's word of an index.
+    pub(crate) fn word(&self, index: u16) -> u64 {
+        word_at(self.words, DIRECTORY_AT + usize::from(index))
+    }
+
+    /// How many bytes its record has.
+    pub(crate) fn len(&self) -> usize {
+        self.bytes.len()
+    }
+
     /// Whether an index names a constant of this kind.
     #[tactic(auto, using(crate::proofs::Tags::names_by_tag))]
     pub(crate) fn names(&self, index: u16, kind: Kind) -> bool

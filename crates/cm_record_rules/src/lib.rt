@@ -8,6 +8,7 @@ mod constant;
 mod constants;
 mod contained;
 mod contents;
+mod cost;
 mod fields;
 mod flags;
 mod itself;
