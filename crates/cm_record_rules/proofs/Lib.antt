@@ -11,3 +11,4 @@ mod KeptRules
 mod JudgedRules
 mod Filled
 mod FirstMembers
+mod Judgements

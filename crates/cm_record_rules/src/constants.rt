@@ -16,7 +16,7 @@ ghost use Rattle.cm_record_rules.specs.Judged.{constant_is_right};
 use crate::bootstrap::bootstrap_count;
 use crate::laid::{LaidClass, UTF8_TAG};
 use cm_class::{Bytes, Constant, Kind};
-use cm_names::{begins_with, ends_in_void, has_utf8_form};
+use cm_names::{begins_with, ends_in_void};
 
 const INIT: &[u8] = b"<init>";
 
@@ -224,7 +224,7 @@ fn is_right_at(class: &LaidClass, methods: u16, index: u16) -> bool
         ≡ option_map_or (constant_is_right class.now) (constant_named class.now index) true }
 {
     if class.tag(index) == UTF8_TAG {
-        return has_utf8_form(class.utf8(index));
+        return class.has_utf8_form(index);
     }
     match class.constant(index) {
         Some(constant) => constant_keeps(class, methods, &constant),

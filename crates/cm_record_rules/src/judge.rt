@@ -11,7 +11,9 @@ use crate::laid::LaidClass;
 use crate::methods::methods_keep;
 use crate::own::attributes_keep;
 use crate::scratch::fill;
+use crate::table::judgements;
 use crate::twins::no_twins;
+use std::alloc::Global;
 
 /// Whether the class is seen to keep all rules.
 #[tactic(auto, using(crate::proofs::JudgedRules::no_fault_judged))]
@@ -35,16 +37,19 @@ fn keeps_rules(class: &LaidClass) -> bool
 /// them too: `first_fault` of `cm_rules` tells.
 ///
 /// The scratch is for this call alone, and one serves for any number of records: it grows to the
-/// bytes of the words and of a byte for each constant. Where that memory can't be had the answer is
+/// bytes of the words and of a byte for each constant. Where memory can't be had the answer is
 /// `false`.
-pub fn judge_words(scratch: &mut Vec<u8>, words: &[u64]) -> bool
+pub fn judge_words(alloc: Global, scratch: &mut Vec<u8>, words: &[u64]) -> bool
     requires { IsRecord words.now }
     ensures { result ≡ true → (c : ClassFile) → IsRecordOf c words.now → fault c ≡ None }
 {
     match fill(scratch, words) {
         Ok(()) => {
             let (bytes, tags) = scratch.split_at(8 * words.len());
-            keeps_rules(&LaidClass::new(words, bytes, tags))
+            match judgements(alloc, &LaidClass::new(words, bytes, tags)) {
+                Ok(table) => keeps_rules(&LaidClass::judged(words, bytes, tags, &table)),
+                Err(_) => false,
+            }
         }
         Err(_) => false,
     }

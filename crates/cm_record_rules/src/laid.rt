@@ -1,14 +1,21 @@
-ghost use Rattle.std.specs.Prelude.{◌≡◌, ◌<◌, ◌^◌, length, get_or};
+ghost use Rattle.std.specs.Prelude.{◌≡◌, ◌<◌, ◌^◌, length, get_or, slice_get};
 
 use crate::attributes::{LaidAttributes, words_from};
 use crate::constant::{constant_of, first_words, run_bytes, word_at};
 use crate::members::LaidMembers;
 use cm_class::{Bytes, Constant, Kind};
+use cm_names::Judgement;
 use cm_record_layout::{
     DIRECTORY_AT, HEAD_CLASS, HEAD_COUNTS, HEAD_INTERFACES_AT, HEAD_MEMBERS_AT, HEAD_RUNS_AT,
     first, fourth, second, third, upper,
 };
 use std::marker::Model;
+
+fn judgement_at(table: &[Judgement], place: usize) -> Option<Judgement>
+    ensures { result ≡ slice_get table.now place }
+{
+    table.get(place).copied()
+}
 
 /// The tag of a Utf8.
 pub(crate) const UTF8_TAG: u8 = 1;
@@ -24,21 +31,27 @@ pub(crate) struct LaidClass<'a> {
     bytes: &'a [u8],
     /// The tag of each constant, by its index; 0 where none stands.
     tags: &'a [u8],
+    /// What the Utf8s are, by their indexes, as far as that was found out.
+    table: &'a [Judgement],
 }
 
 impl<'a> Model for LaidClass<'a> {
     ghost use Rattle.cm_class.specs.declared.class_file.ClassFile.{ClassFile};
     ghost use Rattle.cm_record_rules.specs.Laid.{class_in, IsLaid};
+    ghost use Rattle.cm_record_rules.specs.Judged.{AreJudged};
 
     ghost Value = { ClassFile };
 
     ghost view = { λ c. class_in c.words.now };
 
-    ghost invariant = { λ c. IsLaid c.words.now c.bytes.now c.tags.now };
+    ghost invariant = { λ c. IsLaid c.words.now c.bytes.now c.tags.now
+        × AreJudged (class_in c.words.now) c.table.now };
 }
 
 impl<'a> LaidClass<'a> {
-    ghost use Rattle.std.specs.Prelude.{◌≡◌, ◌<◌, ◌^◌, length, get_or};
+    ghost use Rattle.std.specs.Prelude.{◌≡◌, ◌<◌, ◌^◌, length, get_or, IfSome};
+    ghost use Rattle.cm_names.specs.Judgement.{judgement};
+    ghost use Rattle.cm_record_rules.specs.Judged.{AreJudged};
     ghost use Rattle.cm_class.specs.Names.{constant_named, names, utf8, name_index_at};
     ghost use Rattle.cm_class.specs.Names.{descriptor_index_at};
     ghost use Rattle.cm_record_layout.specs.Packing.{word_bytes};
@@ -52,7 +65,40 @@ impl<'a> LaidClass<'a> {
         requires tags { tags.now ≡ tags_of (class_in words.now) }
         ensures { result ≡ class_in words.now }
     {
-        LaidClass { words, bytes, tags }
+        LaidClass {
+            words,
+            bytes,
+            tags,
+            table: &[],
+        }
+    }
+
+    /// The same class, with what its Utf8s are.
+    pub(crate) fn judged(
+        words: &'a [u64],
+        bytes: &'a [u8],
+        tags: &'a [u8],
+        table: &'a [Judgement],
+    ) -> LaidClass<'a>
+        requires record { IsRecord words.now }
+        requires bytes { bytes.now ≡ word_bytes words.now }
+        requires tags { tags.now ≡ tags_of (class_in words.now) }
+        requires table { AreJudged (class_in words.now) table.now }
+        ensures { result ≡ class_in words.now }
+    {
+        LaidClass {
+            words,
+            bytes,
+            tags,
+            table,
+        }
+    }
+
+    /// What the Utf8 at an index is; none where that wasn't found out.
+    pub(crate) fn judgement(&self, index: u16) -> Option<Judgement>
+        ensures { IfSome result (λ found. found ≡ judgement (utf8 self.now index)) }
+    {
+        judgement_at(self.table, usize::from(index))
     }
 
     /// The access flags.
@@ -91,11 +137,6 @@ impl<'a> LaidClass<'a> {
             Some(tag) => *tag,
             None => 0,
         }
-    }
-
-    /// The directory's word of an index.
-    pub(crate) fn word(&self, index: u16) -> u64 {
-        word_at(self.words, DIRECTORY_AT + usize::from(index))
     }
 
     /// How many bytes its record has.

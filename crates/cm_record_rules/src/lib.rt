@@ -22,6 +22,7 @@ mod numbers;
 mod own;
 mod parts;
 mod scratch;
+mod table;
 mod twins;
 
 pub use judge::judge_words;

@@ -3,8 +3,8 @@
 use crate::laid::LaidClass;
 use cm_class::{Constant, Kind};
 use cm_names::{
-    begins_with, is_class_name, is_field_descriptor, is_method_name, is_unqualified_name,
-    method_units,
+    begins_with, has_utf8_form, is_class_name, is_field_descriptor, is_method_name,
+    is_unqualified_name, method_units,
 };
 
 impl<'a> LaidClass<'a> {
@@ -13,6 +13,7 @@ impl<'a> LaidClass<'a> {
     ghost use Rattle.cm_class.specs.Names.{constant_named, utf8, names_utf8, class_name_index};
     ghost use Rattle.cm_class.specs.Names.{class_name, pair_index, reference_name};
     ghost use Rattle.cm_names.specs.Forms.{is_class_name, is_unqualified_name, is_method_name};
+    ghost use Rattle.cm_names.specs.Forms.{has_utf8_form};
     ghost use Rattle.cm_names.specs.Forms.{is_field_descriptor, is_array_descriptor};
     ghost use Rattle.cm_names.specs.Forms.{is_method_descriptor, method_units};
 
@@ -62,39 +63,70 @@ impl<'a> LaidClass<'a> {
         self.utf8(self.name_and_type(self.pair_index(index)).0)
     }
 
+    /// Whether the Utf8 at an index has the form of one.
+    #[tactic(auto, unfolding(cm_names::specs::Judgement::judgement))]
+    pub(crate) fn has_utf8_form(&self, index: u16) -> bool
+        ensures { result ≡ has_utf8_form (utf8 self.now index) }
+    {
+        match self.judgement(index) {
+            Some(found) => found.utf8,
+            None => has_utf8_form(self.utf8(index)),
+        }
+    }
+
     /// Whether the Utf8 at an index is a class name.
+    #[tactic(auto, unfolding(cm_names::specs::Judgement::judgement))]
     pub(crate) fn names_class_name(&self, index: u16) -> bool
         ensures { result ≡ is_class_name (utf8 self.now index) }
     {
-        is_class_name(self.utf8(index))
+        match self.judgement(index) {
+            Some(found) => found.class_name,
+            None => is_class_name(self.utf8(index)),
+        }
     }
 
     /// Whether the Utf8 at an index is an unqualified name.
+    #[tactic(auto, unfolding(cm_names::specs::Judgement::judgement))]
     pub(crate) fn names_unqualified_name(&self, index: u16) -> bool
         ensures { result ≡ is_unqualified_name (utf8 self.now index) }
     {
-        is_unqualified_name(self.utf8(index))
+        match self.judgement(index) {
+            Some(found) => found.unqualified_name,
+            None => is_unqualified_name(self.utf8(index)),
+        }
     }
 
     /// Whether the Utf8 at an index is a method's name.
+    #[tactic(auto, unfolding(cm_names::specs::Judgement::judgement))]
     pub(crate) fn names_method_name(&self, index: u16) -> bool
         ensures { result ≡ is_method_name (utf8 self.now index) }
     {
-        is_method_name(self.utf8(index))
+        match self.judgement(index) {
+            Some(found) => found.method_name,
+            None => is_method_name(self.utf8(index)),
+        }
     }
 
     /// Whether the Utf8 at an index is a field descriptor.
+    #[tactic(auto, unfolding(cm_names::specs::Judgement::judgement))]
     pub(crate) fn names_field_descriptor(&self, index: u16) -> bool
         ensures { result ≡ is_field_descriptor (utf8 self.now index) }
     {
-        is_field_descriptor(self.utf8(index))
+        match self.judgement(index) {
+            Some(found) => found.field_descriptor,
+            None => is_field_descriptor(self.utf8(index)),
+        }
     }
 
     /// The units of the method descriptor at an index.
+    #[tactic(auto, unfolding(cm_names::specs::Judgement::judgement))]
     pub(crate) fn method_units(&self, index: u16) -> Option<u8>
         ensures { result ≡ method_units (utf8 self.now index) }
     {
-        method_units(self.utf8(index))
+        match self.judgement(index) {
+            Some(found) => found.method_units,
+            None => method_units(self.utf8(index)),
+        }
     }
 
     /// Whether the Utf8 at an index is a method descriptor.

@@ -12,9 +12,8 @@ pub returns-then-tag-eq-UTF8_TAG : goal.returns-then-tag-eq-UTF8_TAG
 returns-then-tag-eq-UTF8_TAG c =
     let class = c.args.class.now in
     c.has_utf8_form.ensures
-    ∙ (ap has_utf8_form c.utf8-2.ensures
     ∙ utf8_test (constant_is_right class) has_utf8_form (form_alone class) class c.args.index
-    c.tag.result c.tag.ensures c.if-tag-eq-UTF8_TAG.true)
+    c.tag.result c.tag.ensures c.if-tag-eq-UTF8_TAG.true
 
 pub returns-in-Some : goal.returns-in-Some
 returns-in-Some c =

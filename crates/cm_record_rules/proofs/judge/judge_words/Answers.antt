@@ -1,11 +1,30 @@
-use Rattle.std.proofs.Common.{◌*◌, ◌∙◌, ap, take, drop, length, sym, arith, length-append}
+use Rattle.std.proofs.Common.{◌≡◌, ◌*◌, ◌++◌, ◌∙◌, ap, take, drop, length, sym, subst, arith, List, ℕ}
+use Rattle.std.proofs.Common.{length-append}
 use Rattle.std.proofs.lemmas.List.{take_at, drop_at}
+use Rattle.cm_class.specs.declared.class_file.ClassFile.{ClassFile}
+use Rattle.cm_names.specs.declared.judgement.Judgement.{Judgement}
 use Rattle.cm_record_layout.specs.Packing.{word_bytes}
 use Rattle.cm_rules.specs.Fault.{fault}
+use Rattle.cm_record_rules.specs.Judged.{AreJudged}
 use Rattle.cm_record_rules.specs.Laid.{class_in, tags_of}
 use Rattle.cm_record_rules.proofs.Filled.{length-word_bytes}
 use Rattle.cm_record_rules.proofs.Whole.{class_in_is}
 use Rattle.cm_record_rules.proofs.judge.judge_words.Goals as goal
+
+-- the two parts of what the scratch has
+front_is : (words all front : List ℕ) → front ≡ take (8 * length words) all
+    → all ≡ word_bytes words ++ tags_of (class_in words) → front ≡ word_bytes words
+front_is words all front taken filled =
+    taken ∙ (ap (take (8 * length words)) filled
+    ∙ take_at (word_bytes words) (tags_of (class_in words)) (8 * length words)
+    (length-word_bytes words))
+
+back_is : (words all back : List ℕ) → back ≡ drop (8 * length words) all
+    → all ≡ word_bytes words ++ tags_of (class_in words) → back ≡ tags_of (class_in words)
+back_is words all back dropped filled =
+    dropped ∙ (ap (drop (8 * length words)) filled
+    ∙ drop_at (word_bytes words) (tags_of (class_in words)) (8 * length words)
+    (length-word_bytes words))
 
 pub split_at-requires : goal.split_at-requires
 split_at-requires c =
@@ -20,21 +39,32 @@ split_at-requires c =
 
 pub new-requires-clause-bytes : goal.new-requires-clause-bytes
 new-requires-clause-bytes c =
-    let words = c.args.words.now in
-    c.split_at.ensures.front
-    ∙ (ap (take (8 * length words)) (c.deref.ensures.value ∙ c.in-Ok.ensures)
-    ∙ take_at (word_bytes words) (tags_of (class_in words)) (8 * length words)
-    (length-word_bytes words))
+    front_is c.args.words.now c.deref.result.now c.split_at.result.0.now c.split_at.ensures.front
+    (c.deref.ensures.value ∙ c.in-Ok.ensures)
 
 pub new-requires-clause-tags : goal.new-requires-clause-tags
 new-requires-clause-tags c =
-    let words = c.args.words.now in
-    c.split_at.ensures.back
-    ∙ (ap (drop (8 * length words)) (c.deref.ensures.value ∙ c.in-Ok.ensures)
-    ∙ drop_at (word_bytes words) (tags_of (class_in words)) (8 * length words)
-    (length-word_bytes words))
+    back_is c.args.words.now c.deref.result.now c.split_at.result.1.now c.split_at.ensures.back
+    (c.deref.ensures.value ∙ c.in-Ok.ensures)
 
-pub returns-in-Ok : goal.returns-in-Ok
-returns-in-Ok c = λ kept d is.
-    ap fault (sym (class_in_is d c.args.words.now is) ∙ sym c.new.ensures)
+pub judged-requires-clause-bytes : goal.judged-requires-clause-bytes
+judged-requires-clause-bytes c =
+    front_is c.args.words.now c.deref.result.now c.split_at.result.0.now c.split_at.ensures.front
+    (c.deref.ensures.value ∙ c.in-Ok.ensures)
+
+pub judged-requires-clause-tags : goal.judged-requires-clause-tags
+judged-requires-clause-tags c =
+    back_is c.args.words.now c.deref.result.now c.split_at.result.1.now c.split_at.ensures.back
+    (c.deref.ensures.value ∙ c.in-Ok.ensures)
+
+pub judged-requires-clause-table : goal.judged-requires-clause-table
+judged-requires-clause-table c =
+    let found = c.in-Ok-judgements.ensures {u = tt} in
+    subst (λ (t : List Judgement). AreJudged (class_in c.args.words.now) t)
+    (sym c.deref-in-Ok-judgements.ensures.value)
+    (subst (λ (d : ClassFile). AreJudged d c.in-Ok-judgements.table.items) c.new.ensures found)
+
+pub returns-in-Ok-judgements : goal.returns-in-Ok-judgements
+returns-in-Ok-judgements c = λ kept d is.
+    ap fault (sym (class_in_is d c.args.words.now is) ∙ sym c.judged.ensures)
     ∙ c.keeps_rules.ensures kept
