@@ -8,7 +8,8 @@ ghost use Rattle.cm_verdict.specs.Kept.{IsKeptRecord};
 
 use cm_class::{Class, class_of_spelling};
 use cm_record::{Record, RecordFault};
-use cm_record_reading::spell_class;
+use cm_record_reading::{is_record, spell_class};
+use cm_record_rules::judge_words;
 use cm_rules::first_fault;
 use std::alloc::{AllocError, Global};
 
@@ -20,12 +21,19 @@ fn keeps_rules(alloc: Global, class: &Class) -> Result<bool, AllocError>
     Ok(broken.is_none())
 }
 
-// Whether these words are the record of a class that keeps the class rules. The class is spelled in
-// the buffer.
+// Whether these words are the record of a class that keeps the class rules. The class is judged
+// over the words, and spelled in the buffer if it isn't seen there to keep them.
 fn are_kept(alloc: Global, buffer: &mut Vec<u8>, words: &[u64]) -> Result<bool, AllocError>
     requires { length words.now ≤ limit }
     ensures { IfOk result (λ kept. kept ≡ is_some (class_kept words.now)) }
 {
+    if !is_record(words) {
+        return Ok(false);
+    }
+    // Nearly every class keeps the rules, and is seen to over the words.
+    if judge_words(alloc, buffer, words) {
+        return Ok(true);
+    }
     match spell_class(words, buffer) {
         Ok(()) => {
             let class = class_of_spelling(alloc, buffer)?;
