@@ -4,3 +4,7 @@ pub mod EndRecords
 pub mod Headers
 pub mod Entries
 pub mod Jars
+pub mod Bits
+pub mod Outputs
+pub mod Codes
+pub mod Rows
