@@ -1,6 +1,8 @@
--- On Crc: shifting is linear, so a byte's eight shifts are one look into a table.
-use Rattle.std.proofs.Common.{◌≡◌, ℕ, zero, suc, ◌+◌, ◌*◌, ◌/◌, ◌%◌, ◌^◌, ◌<◌, ◌≤◌, refl, sym, ◌∙◌, ap, arith, get_or, mul_assoc, add-zero, add-one}
-use Rattle.std.specs.Prelude.{bit_xor, List, [], ◌∷◌, drop, length, Bool, true, ◌==◌, ◌&&◌, false, if◌then◌else◌}
+-- On `shifts`: shifting is linear, so a byte's eight shifts are one look into a table.
+use Rattle.std.proofs.Common.{◌≡◌, ℕ, zero, suc, ◌+◌, ◌*◌, ◌/◌, ◌%◌, ◌^◌, ◌<◌, ◌≤◌, refl, sym}
+use Rattle.std.proofs.Common.{◌∙◌, ap, arith, get_or, mul_assoc, add-zero, add-one}
+use Rattle.std.specs.Prelude.{bit_xor, List, [], ◌∷◌, drop, length, Bool, true, ◌==◌, ◌&&◌, false}
+use Rattle.std.specs.Prelude.{if◌then◌else◌}
 use Rattle.std.specs.Int.Bits.{xor_assoc, xor_self, xor_zero_l, xor_zero_r}
 use Rattle.std.proofs.lemmas.Nat.{xor_comm, xor_shr, xor_mod, xor_block, mod_below}
 use Rattle.std.proofs.Math.Nat.{pow-suc}

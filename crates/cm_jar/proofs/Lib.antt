@@ -1,7 +1,8 @@
-pub mod CrcLaws
-pub mod EntryLaws
-pub mod BitLaws
-pub mod OutputLaws
-pub mod CodeLaws
-pub mod PowerLaws
-pub mod RowLaws
+mod CrcLaws
+mod EntryLaws
+mod BitLaws
+mod OutputLaws
+mod CodeLaws
+mod PowerLaws
+mod RowLaws
+mod DeflateLaws

@@ -1,13 +1,14 @@
 -- CRC-32, the check value of an entry (APPNOTE 4.4.7): division by a polynomial of degree 32, by a
 -- shift register that takes the lowest bit of each byte first.
-use Rattle.std.specs.Prelude.{ℕ, zero, suc, ◌/◌, ◌%◌, List, [], ◌∷◌, bit_xor, ◌==◌, if◌then◌else◌, Bool, true, ◌&&◌}
+use Rattle.std.specs.Prelude.{ℕ, zero, suc, ◌/◌, ◌%◌, List, [], ◌∷◌, bit_xor, ◌==◌, if◌then◌else◌}
+use Rattle.std.specs.Prelude.{Bool, true, ◌&&◌}
 
 -- the polynomial without its highest term, the coefficient of the lowest power in the highest bit
 abbrev pub polynomial : ℕ
 polynomial = 0xEDB8_8320
 
--- The register after one shift. The bit that leaves it at the low end says whether the polynomial is
--- subtracted.
+-- The register after one shift. The bit that leaves it at the low end says whether the polynomial
+-- is subtracted.
 abbrev pub shift : ℕ → ℕ
 shift r = if r % 2 == 0 then r / 2 else bit_xor (r / 2) polynomial
 

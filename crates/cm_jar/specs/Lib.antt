@@ -8,3 +8,6 @@ pub mod Bits
 pub mod Outputs
 pub mod Codes
 pub mod Rows
+pub mod Symbols
+pub mod Deflate
+pub mod BlockHeads
