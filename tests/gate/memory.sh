@@ -38,6 +38,7 @@ beside sweep cm_space_tests pools::a_failed_allocation_leaves_the_pool_as_it_was
 beside sweep cm_space_tests arenas::places_words 15
 beside sweep cm_space_tests arenas::takes_larger_chunks_in_a_longer_chain 25
 beside sweep cm_class_tests faults::a_fault_behind_a_refusal 4
+beside sweep cm_jar_tests contents::a_jar_is_read_after_a_refusal 2
 beside sweep cm_commit_tests commands::a_left_chunk_waits_for_its_receipt 194
 beside sweep cm_commit_tests \
     commands::chunks_of_loaders_that_go_at_once_wait_for_the_receipt 202
