@@ -49,7 +49,7 @@ fn a_jar_is_read_in_full(rt: HostRuntime) -> Result<(), Fail> {
     Ok(())
 }
 
-/// The length of the last entry's content. It is asked for again where an allocation failed.
+/// The length of the last entry's content. It is asked for again if an allocation failed.
 fn last_size(alloc: Global) -> Result<usize, EntryFault> {
     let jar = match Jar::read(alloc, SMALL) {
         Err(JarFault::NoMemory) => Jar::read(alloc, SMALL),
