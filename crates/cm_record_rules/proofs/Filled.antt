@@ -1,9 +1,11 @@
 -- The scratch of a judge, filled one after another.
 -- For `copy_words`, `fill`, `write_tags`.
-use Rattle.std.proofs.Common.{◌≡◌, ◌<◌, ◌≤◌, ◌+◌, ◌%◌, ◌^◌, ℕ, Bool, true, false, List, [], ◌∷◌, ◌++◌}
+use Rattle.std.proofs.Common.{◌≡◌, ◌<◌, ◌≤◌, ◌+◌, ◌%◌, ◌^◌, ℕ, Bool, true, false, List, [], ◌∷◌}
+use Rattle.std.proofs.Common.{◌++◌}
 use Rattle.std.proofs.Common.{length, take, drop, get_or, cond, refl, sym, ◌∙◌, ap, arith}
 use Rattle.std.proofs.Common.{append_assoc, length-append, ◌*◌}
-use Rattle.std.proofs.lemmas.List.{take_more, drop_more, drop_all, append-nil, length-take-le, take_at}
+use Rattle.std.proofs.lemmas.List.{take_more, drop_more, drop_all, append-nil, length-take-le}
+use Rattle.std.proofs.lemmas.List.{take_at}
 use Rattle.std.proofs.lemmas.List.{drop_at, drop-drop}
 use Rattle.std.proofs.lemmas.Grind.{flat_map-append}
 use Rattle.cm_record_layout.specs.Packing.{bytes_of, word_bytes}

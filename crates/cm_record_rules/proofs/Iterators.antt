@@ -1,6 +1,7 @@
 -- Attributes and members, one after another.
 -- For `LaidAttributes::next`, `LaidMembers::next`.
-use Rattle.std.proofs.Common.{◌≡◌, ◌≤◌, ◌<◌, ◌-◌, ℕ, zero, suc, List, [], ◌∷◌, length, drop, get_or, min, ◌/◌}
+use Rattle.std.proofs.Common.{◌≡◌, ◌≤◌, ◌<◌, ◌-◌, ℕ, zero, suc, List, [], ◌∷◌, length, drop}
+use Rattle.std.proofs.Common.{get_or, min, ◌/◌}
 use Rattle.std.proofs.Common.{refl, ap, arith}
 use Rattle.cm_class.specs.declared.class_file.Attribute.{Attribute}
 use Rattle.cm_record_layout.specs.Packing.{first_of, upper_of}

@@ -12,7 +12,7 @@ use cm_attributes::Known;
 use cm_class::{Attribute, Kind};
 
 /// What stands behind a method handle, a count and that many arguments.
-#[tactic(auto, unfolding(cm_attributes::specs::Contents::past_parts, crate::specs::Parts::past_tests))]
+#[tactic(auto, unfolding(crate::specs::Parts::past_parts))]
 fn skip_bootstrap_method<'b>(class: &LaidClass, bytes: &'b [u8]) -> Option<&'b [u8]>
     ensures { option_copied result ≡ past_bootstrap_method class.now bytes.now }
 {

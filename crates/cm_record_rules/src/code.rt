@@ -40,7 +40,7 @@ fn skip_handlers<'b>(class: &LaidClass, size: u32, bytes: &'b [u8]) -> Option<&'
 }
 
 /// What stands behind an attribute whose name is a Utf8.
-#[tactic(auto, unfolding(cm_attributes::specs::Contents::past_parts, crate::specs::Parts::past_tests))]
+#[tactic(auto, unfolding(crate::specs::Parts::past_parts))]
 fn skip_attribute<'b>(class: &LaidClass, bytes: &'b [u8]) -> Option<&'b [u8]>
     ensures { option_copied result ≡ past_attribute class.now bytes.now }
 {
@@ -74,7 +74,7 @@ fn read_code(bytes: &[u8]) -> Option<(u32, &[u8])>
 }
 
 /// What stands behind stack, locals, code, handlers and attributes.
-#[tactic(auto, unfolding(cm_attributes::specs::Contents::past_parts, crate::specs::Parts::past_tests))]
+#[tactic(auto, unfolding(crate::specs::Parts::past_parts))]
 pub(crate) fn skip_code<'b>(class: &LaidClass, bytes: &'b [u8]) -> Option<&'b [u8]>
     ensures { option_copied result ≡ past_code class.now bytes.now }
 {

@@ -14,7 +14,7 @@ use cm_class::Kind;
 
 /// Whether the bytes are a content of this attribute, and nothing else. Of a ConstantValue it isn't
 /// asked which constant it names.
-#[tactic(auto, unfolding(cm_attributes::specs::Contents::is_content, cm_attributes::specs::Contents::past_parts, crate::specs::Parts::past_tests))]
+#[tactic(auto, unfolding(crate::specs::Parts::is_content, crate::specs::Parts::past_parts))]
 pub(crate) fn is_content(class: &LaidClass, known: Known, bytes: &[u8]) -> bool
     ensures { result ≡ is_content class.now known bytes.now }
 {
@@ -57,7 +57,7 @@ fn value_kind(descriptor: &[u8]) -> Option<Kind>
 
 /// Whether the bytes are the index of a constant that a field of this descriptor may have, and
 /// nothing else (JVMS 4.7.2).
-#[tactic(auto, unfolding(cm_attributes::specs::Contents::past_parts, crate::specs::Parts::past_tests))]
+#[tactic(auto, unfolding(crate::specs::Parts::past_parts))]
 pub(crate) fn is_value_of(class: &LaidClass, descriptor: &[u8], bytes: &[u8]) -> bool
     ensures { result ≡ is_value_of class.now descriptor.now bytes.now }
 {

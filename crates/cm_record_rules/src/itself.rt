@@ -50,7 +50,7 @@ pub(crate) fn super_keeps(class: &LaidClass) -> bool
         && super_is_right(class)
 }
 
-#[tactic(auto, unfolding(cm_rules::specs::Kept::interface_keeps, cm_rules::specs::Fault::interface_rule))]
+#[tactic(auto, unfolding(crate::specs::Kept::interface_keeps, crate::specs::Kept::interface_rule))]
 fn interface_keeps(class: &LaidClass, index: u64) -> bool
     ensures { result ≡ true → interface_keeps class.now index ≡ true }
 {

@@ -7,7 +7,7 @@ use crate::contained::{bootstrap_attribute_is_right, class_attribute_is_right};
 use crate::laid::LaidClass;
 use cm_class::{Attribute, Kind};
 
-#[tactic(auto, unfolding(cm_rules::specs::Kept::attribute_keeps, cm_rules::specs::Fault::attribute_rule))]
+#[tactic(auto, unfolding(crate::specs::Kept::attribute_keeps, crate::specs::Kept::attribute_rule))]
 fn attribute_keeps(class: &LaidClass, place: usize, attribute: &Attribute) -> bool
     ensures { result ≡ attribute_keeps class.now place attribute.now }
 {

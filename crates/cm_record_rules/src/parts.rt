@@ -62,7 +62,7 @@ fn is_loadable(class: &LaidClass, index: u16) -> bool
 }
 
 /// What stands behind the index of a constant that a bootstrap method takes.
-#[tactic(auto, unfolding(cm_attributes::specs::Contents::past_parts, crate::specs::Parts::past_tests))]
+#[tactic(auto, unfolding(crate::specs::Parts::past_parts))]
 fn skip_loadable<'b>(class: &LaidClass, bytes: &'b [u8]) -> Option<&'b [u8]>
     ensures { option_copied result ≡ past_tests (names_such is_loadable class.now ∷ []) bytes.now }
 {
@@ -75,7 +75,7 @@ fn skip_loadable<'b>(class: &LaidClass, bytes: &'b [u8]) -> Option<&'b [u8]>
 }
 
 /// What stands behind the index of a constant of this kind, as a row.
-#[tactic(auto, unfolding(cm_attributes::specs::Contents::past_parts, crate::specs::Parts::past_tests))]
+#[tactic(auto, unfolding(crate::specs::Parts::past_parts))]
 pub(crate) fn skip_one<'b>(class: &LaidClass, kind: Kind, bytes: &'b [u8]) -> Option<&'b [u8]>
     ensures { option_copied result ≡ past_tests (names kind class.now ∷ []) bytes.now }
 {
@@ -84,7 +84,7 @@ pub(crate) fn skip_one<'b>(class: &LaidClass, kind: Kind, bytes: &'b [u8]) -> Op
 }
 
 /// What stands behind a number, as a row.
-#[tactic(auto, unfolding(cm_attributes::specs::Contents::past_parts, crate::specs::Parts::past_tests))]
+#[tactic(auto, unfolding(crate::specs::Parts::past_parts))]
 pub(crate) fn skip_number(bytes: &[u8]) -> Option<&[u8]>
     ensures { option_copied result ≡ past_tests (any ∷ []) bytes.now }
 {
@@ -93,7 +93,7 @@ pub(crate) fn skip_number(bytes: &[u8]) -> Option<&[u8]>
 }
 
 /// What stands behind two numbers.
-#[tactic(auto, unfolding(cm_attributes::specs::Contents::past_parts, crate::specs::Parts::past_tests))]
+#[tactic(auto, unfolding(crate::specs::Parts::past_parts))]
 pub(crate) fn skip_two_numbers(bytes: &[u8]) -> Option<&[u8]>
     ensures { option_copied result ≡ past_tests (any ∷ any ∷ []) bytes.now }
 {
@@ -103,7 +103,7 @@ pub(crate) fn skip_two_numbers(bytes: &[u8]) -> Option<&[u8]>
 }
 
 /// What stands behind the class around, and the method.
-#[tactic(auto, unfolding(cm_attributes::specs::Contents::past_parts, crate::specs::Parts::past_tests))]
+#[tactic(auto, unfolding(crate::specs::Parts::past_parts))]
 pub(crate) fn skip_enclosing_method<'b>(class: &LaidClass, bytes: &'b [u8]) -> Option<&'b [u8]>
     ensures { option_copied result ≡ past_parts class.now enclosing_method bytes.now }
 {
@@ -113,7 +113,7 @@ pub(crate) fn skip_enclosing_method<'b>(class: &LaidClass, bytes: &'b [u8]) -> O
 }
 
 /// What stands behind an inner class, the class around, its name and its flags.
-#[tactic(auto, unfolding(cm_attributes::specs::Contents::past_parts, crate::specs::Parts::past_tests))]
+#[tactic(auto, unfolding(crate::specs::Parts::past_parts))]
 fn skip_inner_class<'b>(class: &LaidClass, bytes: &'b [u8]) -> Option<&'b [u8]>
     ensures { option_copied result ≡ past_parts class.now inner_class bytes.now }
 {
@@ -126,7 +126,8 @@ fn skip_inner_class<'b>(class: &LaidClass, bytes: &'b [u8]) -> Option<&'b [u8]>
 
 /// What stands behind a count, and that many exceptions.
 pub(crate) fn skip_exceptions<'b>(class: &LaidClass, bytes: &'b [u8]) -> Option<&'b [u8]>
-    ensures { option_copied result ≡ past_counted (past_tests (names kinds.Class class.now ∷ [])) bytes.now }
+    ensures { option_copied result
+        ≡ past_counted (past_tests (names kinds.Class class.now ∷ [])) bytes.now }
 {
     let (count, mut rest) = read_u2(bytes)?;
     for _ in 0..count {

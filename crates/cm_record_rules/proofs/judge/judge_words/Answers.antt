@@ -1,4 +1,5 @@
-use Rattle.std.proofs.Common.{◌≡◌, ◌*◌, ◌++◌, ◌∙◌, ap, take, drop, length, sym, subst, arith, List, ℕ}
+use Rattle.std.proofs.Common.{◌≡◌, ◌*◌, ◌++◌, ◌∙◌, ap, take, drop, length, sym, subst, arith}
+use Rattle.std.proofs.Common.{List, ℕ}
 use Rattle.std.proofs.Common.{length-append}
 use Rattle.std.proofs.lemmas.List.{take_at, drop_at}
 use Rattle.cm_class.specs.declared.class_file.ClassFile.{ClassFile}

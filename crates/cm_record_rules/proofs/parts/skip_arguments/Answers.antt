@@ -16,7 +16,8 @@ returns-in_err-rest c =
 
 pub loop-preserved : goal.loop-preserved
 loop-preserved c =
-    rows_goes_on (past_tests (names_such is_loadable c.args.class.now ∷ [])) c.in_ok-count.count c.loop.counter
+    rows_goes_on (past_tests (names_such is_loadable c.args.class.now ∷ [])) c.in_ok-count.count
+    c.loop.counter
     c.loop.rest.now c.in_ok-rest.rest.now
     (past_counted (past_tests (names_such is_loadable c.args.class.now ∷ [])) c.args.bytes.now)
     c.loop-test.true c.in_ok-rest.ensures c.loop.invariant
@@ -24,5 +25,6 @@ loop-preserved c =
 pub returns : goal.returns
 returns c = rows_end (past_tests (names_such is_loadable c.args.class.now ∷ [])) c.in_ok-count.count
     c.loop.counter c.loop.rest.now
-    (past_counted (past_tests (names_such is_loadable c.args.class.now ∷ [])) c.args.bytes.now) c.loop-test.false
+    (past_counted (past_tests (names_such is_loadable c.args.class.now ∷ [])) c.args.bytes.now)
+    c.loop-test.false
     c.loop.invariant

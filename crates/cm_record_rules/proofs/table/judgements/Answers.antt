@@ -1,4 +1,5 @@
-use Rattle.std.proofs.Common.{◌≡◌, ◌+◌, ◌++◌, ◌∷◌, [], ◌∙◌, ap, length, length-append, refl, subst, sym}
+use Rattle.std.proofs.Common.{◌≡◌, ◌+◌, ◌++◌, ◌∷◌, [], ◌∙◌, ap, length, length-append, refl}
+use Rattle.std.proofs.Common.{subst, sym}
 use Rattle.std.proofs.Common.{arith}
 use Rattle.cm_record_rules.specs.Judged.{AreJudged}
 use Rattle.cm_record_rules.proofs.Judgements.{none_judged, judged_more}

@@ -2,18 +2,21 @@ use Rattle.std.proofs.Common.{◌≡◌, ◌∷◌, ◌-◌, ◌<◌, ◌∙◌,
 use Rattle.std.proofs.Common.{arith}
 use Rattle.cm_record_layout.specs.Packing.{first_of, upper_of}
 use Rattle.cm_record_rules.specs.Laid.{run_bytes, attributes_in}
-use Rattle.cm_record_rules.proofs.Iterators.{no_attributes, attributes_short, next_attribute, positive}
+use Rattle.cm_record_rules.proofs.Iterators.{no_attributes, attributes_short, next_attribute}
+use Rattle.cm_record_rules.proofs.Iterators.{positive}
 use Rattle.cm_record_rules.proofs.attributes.LaidAttributesIterator.next.Goals as goal
 
 pub returns-then-self-eq0-clause-steps : goal.returns-then-self-eq0-clause-steps
 returns-then-self-eq0-clause-steps c =
-    let gone = sym c.self.view_is ∙ no_attributes c.self.inside.bytes.now c.self.inside.count c.self.inside.rest.now
+    let gone = sym c.self.view_is ∙ no_attributes c.self.inside.bytes.now c.self.inside.count
+    c.self.inside.rest.now
     c.if-self-eq0.true in
     (gone, gone)
 
 pub returns-then-self-lt2-clause-steps : goal.returns-then-self-lt2-clause-steps
 returns-then-self-lt2-clause-steps c =
-    let gone = sym c.self.view_is ∙ attributes_short c.self.inside.bytes.now c.self.inside.count c.self.inside.rest.now
+    let gone = sym c.self.view_is ∙ attributes_short c.self.inside.bytes.now c.self.inside.count
+    c.self.inside.rest.now
     c.if-self-lt2.true in
     (gone, gone)
 

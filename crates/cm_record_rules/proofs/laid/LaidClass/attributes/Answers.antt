@@ -10,6 +10,7 @@ returns-clause-same c =
     let number = c.from.ensures ∙ count in
     let place = c.saturating_sub-at.ensures ∙ (λ i. c.word_at-behind.ensures i - 2 * number i) in
     c.new.ensures.same
-    ∙ ((λ i. attributes_in c.self.inside.bytes.now (count i) (drop (place i) c.self.inside.words.now))
+    ∙ ((λ i. attributes_in c.self.inside.bytes.now (count i) (drop (place i)
+    c.self.inside.words.now))
     ∙ its_attributes c.args.self.now c.self.inside.words.now c.self.inside.bytes.now
     c.self.inside.tags.now c.self.invariant.0 c.self.view_is)

@@ -4,12 +4,14 @@ use Rattle.cm_class.specs.Names.{name_index, descriptor_index}
 use Rattle.cm_record_rules.proofs.Whole.{its_pair, no_pair}
 use Rattle.cm_record_rules.proofs.laid.LaidClass.name_and_type.Goals as goal
 
-pub returns-then-tag-ne-NAME_AND_TYPE_TAG-clause-name : goal.returns-then-tag-ne-NAME_AND_TYPE_TAG-clause-name
+pub returns-then-tag-ne-NAME_AND_TYPE_TAG-clause-name :
+    goal.returns-then-tag-ne-NAME_AND_TYPE_TAG-clause-name
 returns-then-tag-ne-NAME_AND_TYPE_TAG-clause-name c =
     (no_pair c.args.self.now c.args.index c.tag.result c.tag.ensures
     c.if-tag-ne-NAME_AND_TYPE_TAG.true).0
 
-pub returns-then-tag-ne-NAME_AND_TYPE_TAG-clause-descriptor : goal.returns-then-tag-ne-NAME_AND_TYPE_TAG-clause-descriptor
+pub returns-then-tag-ne-NAME_AND_TYPE_TAG-clause-descriptor :
+    goal.returns-then-tag-ne-NAME_AND_TYPE_TAG-clause-descriptor
 returns-then-tag-ne-NAME_AND_TYPE_TAG-clause-descriptor c =
     (no_pair c.args.self.now c.args.index c.tag.result c.tag.ensures
     c.if-tag-ne-NAME_AND_TYPE_TAG.true).1

@@ -6,13 +6,15 @@ use Rattle.cm_record_rules.proofs.members.LaidMembersIterator.next.Goals as goal
 
 pub returns-then-self-eq0-clause-steps : goal.returns-then-self-eq0-clause-steps
 returns-then-self-eq0-clause-steps c =
-    let gone = sym c.self.view_is ∙ no_members c.self.inside.all.now c.self.inside.bytes.now c.self.inside.count c.self.inside.rest.now
+    let gone = sym c.self.view_is ∙ no_members c.self.inside.all.now c.self.inside.bytes.now
+    c.self.inside.count c.self.inside.rest.now
     c.if-self-eq0.true in
     (gone, gone)
 
 pub returns-then-self-lt2-clause-steps : goal.returns-then-self-lt2-clause-steps
 returns-then-self-lt2-clause-steps c =
-    let gone = sym c.self.view_is ∙ members_short c.self.inside.all.now c.self.inside.bytes.now c.self.inside.count c.self.inside.rest.now
+    let gone = sym c.self.view_is ∙ members_short c.self.inside.all.now c.self.inside.bytes.now
+    c.self.inside.count c.self.inside.rest.now
     c.if-self-lt2.true in
     (gone, gone)
 
@@ -49,7 +51,8 @@ returns-clause-goes c =
           arith,
           ap length more,
           ap
-              (λ ws. length (members_in c.self.inside.all.now c.self.inside.bytes.now (c.self.inside.count - 1) ws))
+              (λ ws. length (members_in c.self.inside.all.now c.self.inside.bytes.now
+              (c.self.inside.count - 1) ws))
               c.words_from-self-inside.ensures,
         ),
       );
