@@ -1,5 +1,5 @@
 -- A class whose parts keep all rules has no fault.
--- For `judge_words`; as in `cm_rules`.
+-- For `judge_words`.
 use Rattle.std.proofs.Common.{◌≡◌, ℕ, ◌+◌, Bool, true, false, cond, List, [], ◌∷◌, Some, None, refl}
 use Rattle.std.proofs.Common.{◌∙◌}
 use Rattle.std.specs.Prelude.{◌&&◌}

@@ -1,5 +1,5 @@
 -- Loops that look for the first item that fails a test.
--- For `attributes_keep`, `no_twins`, `judge_words`; as in `cm_rules`.
+-- For `attributes_keep`, `no_twins`, `judge_words`.
 use Rattle.std.proofs.Common.{◌≡◌, ℕ, suc, ◌+◌, ◌-◌, ◌<◌, ◌≤◌, Bool, true, false, cond, not, List}
 use Rattle.std.proofs.Common.{[], ◌∷◌, ◌++◌, map, length, get_or, drop, Option, Some, None, refl}
 use Rattle.std.proofs.Common.{sym, ap, ◌∙◌, add-one, add-zero, zero-add, drop-cons, arith}

@@ -1,5 +1,5 @@
 -- The tags of a class's constants, out of the words of its directory.
--- For `LaidClass::names`, `read_tags`.
+-- For `LaidClass::names`, `write_tags`.
 use Rattle.std.proofs.Common.{◌≡◌, ◌+◌, ◌%◌, ◌^◌, ℕ, zero, suc, Bool, true, false, List}
 use Rattle.std.proofs.Common.{[], ◌∷◌, ◌++◌, length, take, get_or, slice_get, Option, Some, None}
 use Rattle.std.proofs.Common.{refl, ◌∙◌, ap, arith, append_assoc}
