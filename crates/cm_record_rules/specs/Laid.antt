@@ -53,7 +53,7 @@ tags_of c = 0 ∷ map slot_tag c.slots
 abbrev pub run_bytes : List ℕ → ℕ → ℕ → List ℕ
 run_bytes bytes at len = take len (drop (8 * at) bytes)
 
--- what a directory word of this kind stands for, with the word behind it
+-- what a directory word of this kind stands for, with the word after it
 abbrev pub constant_of : List ℕ → ℕ → ℕ → Kind → ClassConstant
 constant_of bytes word next kinds.Utf8 =
     constant.Utf8 (run_bytes bytes (upper_of word) (second_of word))
@@ -83,7 +83,7 @@ constant_there words bytes tag index =
 
 -- ---- attributes and members
 
--- so many attributes, from their words
+-- this many attributes, from their words
 unfoldable pub attributes_in : List ℕ → ℕ → List ℕ → List Attribute
 attributes_in bytes zero words = []
 attributes_in bytes (suc n) [] = []
@@ -101,7 +101,7 @@ member_in all bytes word at = record {
   attributes = attributes_in bytes (fourth_of word) (drop at all);
 }
 
--- so many members, from their words among all words
+-- this many members, from their words among all words
 unfoldable pub members_in : List ℕ → List ℕ → ℕ → List ℕ → List Member
 members_in all bytes zero words = []
 members_in all bytes (suc n) [] = []

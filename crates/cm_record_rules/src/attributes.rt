@@ -14,7 +14,7 @@ pub(crate) struct LaidAttributes<'a> {
     count: u16,
     /// The bytes of the record.
     bytes: &'a [u8],
-    /// The words of the next one, and what stands behind them.
+    /// The words of the next one, and what stands after them.
     rest: &'a [u64],
 }
 

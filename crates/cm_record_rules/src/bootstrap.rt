@@ -11,7 +11,7 @@ use crate::parts::{skip_arguments, skip_one};
 use cm_attributes::Known;
 use cm_class::{Attribute, Kind};
 
-/// What stands behind a method handle, a count and that many arguments.
+/// What stands after a method handle, a count and that many arguments.
 #[tactic(auto, unfolding(crate::specs::Parts::past_parts))]
 fn skip_bootstrap_method<'b>(class: &LaidClass, bytes: &'b [u8]) -> Option<&'b [u8]>
     ensures { option_copied result ≡ past_bootstrap_method class.now bytes.now }
@@ -20,7 +20,7 @@ fn skip_bootstrap_method<'b>(class: &LaidClass, bytes: &'b [u8]) -> Option<&'b [
     skip_arguments(class, rest)
 }
 
-/// What stands behind a count, and that many bootstrap methods.
+/// What stands after a count, and that many bootstrap methods.
 pub(crate) fn skip_bootstrap_methods<'b>(class: &LaidClass, bytes: &'b [u8]) -> Option<&'b [u8]>
     ensures { option_copied result ≡ past_counted (past_bootstrap_method class.now) bytes.now }
 {

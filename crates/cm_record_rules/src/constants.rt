@@ -216,7 +216,7 @@ fn constant_keeps(class: &LaidClass, methods: u16, constant: &Constant<Bytes>) -
     }
 }
 
-/// Whether the constant at an index keeps all rules; true where none stands.
+/// Whether the constant at an index keeps all rules; true if none stands.
 #[tactic(auto, unfolding(crate::specs::Judged::constant_is_right))]
 fn is_right_at(class: &LaidClass, methods: u16, index: u16) -> bool
     requires { methods ≡ bootstrap_count class.now }

@@ -90,7 +90,7 @@ fn values_agree(class: &LaidClass, field: &LaidMember) -> bool
 }
 
 /// Whether a field's attributes have their contents, with at most one ConstantValue, which is of
-/// the field's type where the field is static (JVMS 4.7.2, 4.7.8, 4.7.9, 4.7.15).
+/// the field's type if the field is static (JVMS 4.7.2, 4.7.8, 4.7.9, 4.7.15).
 pub(crate) fn field_attributes_are_right(class: &LaidClass, field: &LaidMember) -> bool
     ensures { result ≡ field_attributes_are_right class.now field.now }
 {
@@ -119,7 +119,7 @@ fn is_first_of(class: &LaidClass, among: &[Known], place: usize, attribute: &Att
 }
 
 /// Whether an attribute of the class at a place has its content, and no attribute of its name
-/// before it where a class has at most one (JVMS 4.7.6 to 4.7.10, 4.7.15).
+/// before it if a class has at most one (JVMS 4.7.6 to 4.7.10, 4.7.15).
 pub(crate) fn class_attribute_is_right(
     class: &LaidClass,
     place: usize,

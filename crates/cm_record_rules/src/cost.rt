@@ -1,7 +1,7 @@
 //! Whether comparing the members of a class takes time in proportion to its record.
 //!
-//! Each member is compared with those before it, so many of them with long names that are the same
-//! would be gone over again and again. Such a class, which no compiler writes, is left to
+//! Each member is compared with those before it, so a class of many members with long names would
+//! have its names read again and again. Such a class, which no compiler writes, is left to
 //! `cm_rules`, which tells members apart by what their names are found to be.
 
 use crate::laid::LaidClass;

@@ -34,10 +34,10 @@ fn keeps_rules(class: &LaidClass) -> bool
 
 /// Whether the class of a record is seen to keep all class rules: a quick test that promises only
 /// its `true`, over the record's words, without the class. With any other answer the class may keep
-/// them too: `first_fault` of `cm_rules` tells.
+/// them too: `first_fault` of `cm_rules` says.
 ///
 /// The scratch is for this call alone, and one serves for any number of records: it grows to the
-/// bytes of the words and of a byte for each constant. Where memory can't be had the answer is
+/// bytes of the words and of a byte for each constant. If memory can't be had the answer is
 /// `false`.
 pub fn judge_words(alloc: Global, scratch: &mut Vec<u8>, words: &[u64]) -> bool
     requires { IsRecord words.now }

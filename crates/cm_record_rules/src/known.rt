@@ -50,7 +50,7 @@ fn position_of(class: &LaidClass, known: Known) -> Option<usize>
 }
 
 /// The first place among the attributes of the class itself where this one stands; their number,
-/// where it stands at none.
+/// if it stands at none.
 #[tactic(auto, unfolding(cm_attributes::specs::Names::first_place))]
 pub(crate) fn first_place(class: &LaidClass, known: Known) -> usize
     ensures { result ≡ first_place class.now known }

@@ -29,7 +29,7 @@ pub(crate) struct LaidClass<'a> {
     words: &'a [u64],
     /// The bytes of these words.
     bytes: &'a [u8],
-    /// The tag of each constant, by its index; 0 where none stands.
+    /// The tag of each constant, by its index; 0 if none stands.
     tags: &'a [u8],
     /// What the Utf8s are, by their indexes, as far as that was found out.
     table: &'a [Judgement],
@@ -115,7 +115,7 @@ impl<'a> LaidClass<'a> {
         second(word_at(self.words, HEAD_CLASS))
     }
 
-    /// Index of the super class in the pool; 0 where there is none.
+    /// Index of the super class in the pool; 0 if there is none.
     pub(crate) fn super_class(&self) -> u16
         ensures { result ≡ self.now.super_class }
     {
@@ -129,7 +129,7 @@ impl<'a> LaidClass<'a> {
         first(word_at(self.words, HEAD_COUNTS)).saturating_sub(1)
     }
 
-    /// The tag of the constant at an index; 0 where none stands.
+    /// The tag of the constant at an index; 0 if none stands.
     pub(crate) fn tag(&self, index: u16) -> u8
         ensures { result ≡ get_or (tags_of self.now) index 0 }
     {
@@ -152,7 +152,7 @@ impl<'a> LaidClass<'a> {
         u16::from(self.tag(index)) == kind.tag()
     }
 
-    /// The constant that an index of the pool names; none at 0, behind a Long or a Double, and past
+    /// The constant that an index of the pool names; none at 0, after a Long or a Double, and past
     /// the pool.
     pub(crate) fn constant(&self, index: u16) -> Option<Constant<Bytes<'a>>>
         ensures { result ≡ constant_named self.now index }
@@ -167,7 +167,7 @@ impl<'a> LaidClass<'a> {
         }
     }
 
-    /// The bytes of the Utf8 that an index names; none where it names no Utf8.
+    /// The bytes of the Utf8 that an index names; none if it names no Utf8.
     pub(crate) fn utf8(&self, index: u16) -> &'a [u8]
         ensures { result.now ≡ utf8 self.now index }
     {
@@ -183,7 +183,7 @@ impl<'a> LaidClass<'a> {
     }
 
     /// The indexes of the name and of the descriptor in the NameAndType that an index names; both 0
-    /// where it names none.
+    /// if it names none.
     pub(crate) fn name_and_type(&self, index: u16) -> (u16, u16)
         ensures name { result.0 ≡ name_index_at self.now index }
         ensures descriptor { result.1 ≡ descriptor_index_at self.now index }

@@ -63,7 +63,7 @@ pub(crate) struct LaidMembers<'a> {
     count: u16,
     all: &'a [u64],
     bytes: &'a [u8],
-    /// The words of the next one, and what stands behind them.
+    /// The words of the next one, and what stands after them.
     rest: &'a [u64],
 }
 

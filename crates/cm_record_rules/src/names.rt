@@ -24,7 +24,7 @@ impl<'a> LaidClass<'a> {
         self.names(index, Kind::Utf8) && self.utf8(index) == bytes
     }
 
-    /// Index of a class's name; 0 where there is no class.
+    /// Index of a class's name; 0 if there is no class.
     fn class_name_index(&self, index: u16) -> u16
         ensures { result ≡ option_map_or class_name_index (constant_named self.now index) 0 }
     {
@@ -34,14 +34,14 @@ impl<'a> LaidClass<'a> {
         }
     }
 
-    /// The name of the class that an index names; none where it leads to no Utf8.
+    /// The name of the class that an index names; none if it leads to no Utf8.
     pub(crate) fn class_name(&self, index: u16) -> &'a [u8]
         ensures { result.now ≡ class_name self.now index }
     {
         self.utf8(self.class_name_index(index))
     }
 
-    /// Index of the NameAndType that a reference to a member names; 0 where there is none.
+    /// Index of the NameAndType that a reference to a member names; 0 if there is none.
     fn pair_index(&self, index: u16) -> u16
         ensures { result ≡ option_map_or pair_index (constant_named self.now index) 0 }
     {

@@ -53,7 +53,7 @@ fn write_words(scratch: &mut Vec<u8>, words: &[u64]) -> Result<(), AllocError>
     Ok(())
 }
 
-/// Puts the tags of the directory's words behind what the scratch has.
+/// Puts the tags of the directory's words after what the scratch has.
 fn write_tags(scratch: &mut Vec<u8>, directory: &[u64]) -> Result<(), AllocError>
     ensures { OnOk result
         (scratch.new.items ≡ scratch.old.items ++ tags_from false directory.now) }
@@ -67,7 +67,7 @@ fn write_tags(scratch: &mut Vec<u8>, directory: &[u64]) -> Result<(), AllocError
     Ok(())
 }
 
-/// Has the bytes of a record's words in the scratch, and behind them the tags of its constants by
+/// Has the bytes of a record's words in the scratch, and after them the tags of its constants by
 /// their indexes, from 0 on.
 pub(crate) fn fill(scratch: &mut Vec<u8>, words: &[u64]) -> Result<(), AllocError>
     requires { IsRecord words.now }

@@ -22,7 +22,7 @@ fn judge_nothing() -> Judgement
     }
 }
 
-/// What the Utf8 at an index is; what no bytes are, where none stands there.
+/// What the Utf8 at an index is; what no bytes are, if none stands there.
 fn judge_at(class: &LaidClass, index: u16) -> Judgement
     ensures { result ≡ judgement (utf8 class.now index) }
 {

@@ -18,7 +18,7 @@ struct Tally {
     kept: u32,
     /// How many of these are seen to keep them over the words.
     seen: u32,
-    /// Of how many the words were said to keep the rules, where the class doesn't.
+    /// Of how many the words were said to keep the rules, if the class doesn't.
     wrong: u32,
 }
 
