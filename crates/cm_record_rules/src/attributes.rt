@@ -1,3 +1,4 @@
+//! Attributes where they lie, in the words of a record.
 ghost use Rattle.std.specs.Prelude.{◌≡◌, ◌<◌, ◌^◌, length, drop, slice_get};
 ghost use Rattle.std.specs.Iterator.{YieldsFirst, item_count};
 ghost use Rattle.cm_record_rules.specs.Laid.{attributes_in};

@@ -1,3 +1,4 @@
+//! Judging the class of a record over its words.
 ghost use Rattle.std.specs.Prelude.{◌≡◌, true, None};
 ghost use Rattle.cm_class.specs.declared.class_file.ClassFile.{ClassFile};
 ghost use Rattle.cm_record_layout.specs.Layout.{IsRecord, IsRecordOf};

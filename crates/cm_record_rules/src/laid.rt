@@ -1,3 +1,4 @@
+//! A class where it lies, in the words of its record.
 ghost use Rattle.std.specs.Prelude.{◌≡◌, ◌<◌, ◌^◌, length, get_or, slice_get};
 
 use crate::attributes::{LaidAttributes, words_from};

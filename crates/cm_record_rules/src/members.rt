@@ -1,3 +1,4 @@
+//! Fields and methods where they lie, in the words of a record.
 ghost use Rattle.std.specs.Prelude.{◌≡◌, ◌<◌, ◌^◌, length, drop};
 ghost use Rattle.std.specs.Iterator.{YieldsFirst, item_count};
 ghost use Rattle.cm_record_rules.specs.Laid.{member_in, members_in};
