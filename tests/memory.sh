@@ -32,11 +32,11 @@ beside sweep_program "$work/script" 383 apply --memory
 beside sweep_program "$work/script" 383 apply FILE
 beside sweep_program "$work/script" 91 format FILE
 # Opening a file alone, and looking at it.
-beside sweep_program /dev/null 322 apply FILE
-beside sweep_program /dev/null 242 check FILE
-beside sweep_program /dev/null 401 list FILE
+beside sweep_program /dev/null 316 apply FILE
+beside sweep_program /dev/null 236 check FILE
+beside sweep_program /dev/null 395 list FILE
 # The same for a cache that is started for threads: what they share, and the flusher's thread.
-beside sweep_program /dev/null 342 apply FILE --workers 2
+beside sweep_program /dev/null 336 apply FILE --workers 2
 beside sweep_program "$work/script" 419 apply FILE --workers 2
 # The same by the library alone: one thread makes a loader and defines a class.
 files=$(find_program cm_bench_files)
