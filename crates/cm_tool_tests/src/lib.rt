@@ -4,17 +4,17 @@
 #[cfg(test)]
 mod disks;
 #[cfg(test)]
-mod maintenance_disks;
-#[cfg(test)]
-mod maintenance_faults;
-#[cfg(test)]
-mod maintenance_writers;
-#[cfg(test)]
 mod line_forms;
 #[cfg(test)]
 mod line_readers;
 #[cfg(test)]
 mod line_writers;
+#[cfg(test)]
+mod maintenance_disks;
+#[cfg(test)]
+mod maintenance_faults;
+#[cfg(test)]
+mod maintenance_writers;
 #[cfg(test)]
 mod scripts;
 #[cfg(test)]

@@ -1,7 +1,7 @@
 //! Writers that take a part, or can't pass on what they took.
 
-use crate::maintenance_disks::{Verb, cache_after, tell, tell_to_end};
 use crate::line_writers::StuckWriter;
+use crate::maintenance_disks::{Verb, cache_after, tell, tell_to_end};
 use cm_disk::SimDisk;
 use cm_maintenance::{MaintenanceFault, NotReported, Status};
 use std::alloc::Global;

@@ -2,9 +2,9 @@
 
 use crate::scripts::run_script;
 use crate::status::say_not_made;
+use cm_arguments::usual_geometry;
 use cm_disk::SimDisk;
 use cm_maintenance::Status;
-use cm_arguments::usual_geometry;
 use cm_recover::format;
 use std::sync::Wait;
 use std::thread::Threads;

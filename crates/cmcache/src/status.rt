@@ -3,8 +3,8 @@
 ghost use Rattle.std.specs.Prelude.{◌≡◌, true, false};
 ghost use Rattle.cm_arguments.specs.Action.{IsHelp, IsWrong};
 
-use cm_maintenance::{Status, tell_fault};
 use cm_arguments::UsageFault;
+use cm_maintenance::{Status, tell_fault};
 use cm_recover::{FormatFault, OpenFault};
 use cm_tool::{Outcome, ToolFault};
 use std::fmt::Display;

@@ -1,8 +1,8 @@
 //! The words of the command line, and what is said if they ask for nothing that can be done.
 
 use crate::status::{fail, status_of_usage};
-use cm_maintenance::Status;
 use cm_arguments::{UsageFault, wrong_words};
+use cm_maintenance::Status;
 use cm_tool::ToolFault;
 use std::rt::Env;
 use std::{env, io};
