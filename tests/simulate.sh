@@ -31,6 +31,6 @@ checks() {
 }
 
 checks
-checks "$library" 404
+checks "$library" 398
 
 finish
