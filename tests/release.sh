@@ -3,7 +3,7 @@
 # these very sources have the bytes that the gate built. And which program bin/cmcache runs: in a
 # clone, with newer sources, with changed ones, and with a release that somebody altered.
 #
-# Needs git.
+# Needs git. After the gate (GATE is set) each program has to be there to be compared.
 set -u
 cd "$(dirname "$0")/.." || exit 1
 . tests/lib.sh
@@ -49,10 +49,10 @@ elif [ "$(rt version)" != "$(released kit)" ]; then
 else
     for made in "$work"/release/*; do
         name=$(basename "$made")
-        [ -x "crates/$name/out/$name" ] || {
+        if [ -z "${GATE:-}" ] && [ ! -x "crates/$name/out/$name" ]; then
             echo "not compared: $name wasn't built here"
             continue
-        }
+        fi
         cmp "$made" "crates/$name/out/$name"
         check_last "the bytes of $name"
     done
