@@ -1,4 +1,4 @@
--- Chains of chunks and used words that stand side by side.
+-- Chains from parallel lists of chunks and of used words.
 -- For `Arena::adopt`, `Arena::chunks`, `Arena::place` and others.
 use Rattle.std.proofs.Common.{◌≡◌, ℕ, zero, suc, ◌+◌, ◌<◌, true, false, cond, eqb, List, [], ◌∷◌}
 use Rattle.std.proofs.Common.{◌++◌, length, get_or, set, drop, Some, refl, ap, arith}
@@ -9,16 +9,16 @@ use Rattle.cm_pool.specs.declared.chunk.Chunk.{Chunk}
 use Rattle.cm_pool.specs.declared.place.Place.{Place}
 use Rattle.cm_pool.specs.Chunks.{same_chunk}
 use Rattle.cm_arena.specs.Placing.{next_offset, with_place}
-use Rattle.cm_arena.specs.Chains.{Filled, chunks_of, chain_of, last_of, with_more, used_of}
+use Rattle.cm_arena.specs.Chains.{Filled, chain_chunks, chain_of, last_of, with_more, used_of}
 use Rattle.cm_arena.specs.Chains.{IsFilled}
 
 pub chunks-chain_of : (cs : List Chunk) (us : List ℕ) → length cs ≡ length us
-    → chunks_of (chain_of cs us) ≡ cs
+    → chain_chunks (chain_of cs us) ≡ cs
 chunks-chain_of [] us h = refl
 chunks-chain_of (c ∷ cs) [] h = absurd (omega arith)
 chunks-chain_of (c ∷ cs) (n ∷ us) h = ap (λ ds. c ∷ ds) (chunks-chain_of cs us (omega arith))
 
--- the first chunk that is left, and the others
+-- the first of the chunks that are left, and the others
 pub used_of-drop : (cs : List Chunk) (us : List ℕ) (at : ℕ) (d c : Chunk) (e : ℕ)
     → length cs ≡ length us → at < length cs
     → used_of (chain_of (drop at cs) (drop at us)) c
@@ -79,7 +79,7 @@ filled-set (c ∷ cs) (m ∷ us) zero n d same lt h new = (new, h.1)
 filled-set (c ∷ cs) (m ∷ us) (suc k) n d same lt h new =
     (h.0, filled-set cs us k n d (omega arith) (omega arith) h.1 new)
 
--- one chunk more
+-- one more chunk
 pub chain_of-push : (cs : List Chunk) (us : List ℕ) (c : Chunk) (n : ℕ) → length cs ≡ length us
     → chain_of (cs ++ c ∷ []) (us ++ n ∷ []) ≡ chain_of cs us ++ record { chunk = c; used = n } ∷ []
 chain_of-push [] [] c n same = refl
@@ -99,7 +99,7 @@ length-chain_of [] us same = refl
 length-chain_of (c ∷ cs) [] same = absurd (omega arith)
 length-chain_of (c ∷ cs) (n ∷ us) same = omega (arith, length-chain_of cs us (omega arith))
 
--- where the next words go, by the last chunk
+-- where the next words go, in terms of the last chunk
 pub next-chain_of : (cs : List Chunk) (us : List ℕ) (k : ℕ) (d c : Chunk) (e : ℕ)
     → length cs ≡ length us → length cs ≡ suc k
     → next_offset (chain_of cs us) c ≡ cond (same_chunk (get_or cs k d) c) (get_or us k e) 0

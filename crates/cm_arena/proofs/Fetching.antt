@@ -1,4 +1,4 @@
--- A chunk that comes out of a pool.
+-- A chunk that comes from a pool.
 -- For `Arena::place`, `fetch`.
 use Rattle.std.proofs.Common.{ℕ, ◌≤◌, inl, inr, ◌⊎◌, arith}
 use Rattle.cm_pool.specs.declared.chunk.Chunk.{Chunk}
@@ -15,7 +15,7 @@ taken-has_free old new wanted need c le (inl h) =
     large_has_small old need wanted le (c, h.first.of_order, h.first.free)
 taken-has_free old new wanted need c le (inr h) = (c, h.first.of_order, h.first.free)
 
--- a chunk that was fetched is of the order wanted or of the order needed, and has few words
+-- a fetched chunk is of the order wanted or of the order needed, and has a limited number of words
 pub fetched-order : (old new : FreeSpace) (wanted need : ℕ) (c : Chunk) → need ≤ wanted
     → Fetches old wanted need c new → need ≤ c.order
 fetched-order old new wanted need c le (inl h) = omega (arith, h.first.of_order)

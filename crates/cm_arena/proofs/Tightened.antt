@@ -9,7 +9,7 @@ use Rattle.cm_pool.specs.Chunks.{chunk_size}
 use Rattle.cm_pool.specs.FreeSpace.{FreeSpace, IsFirstFree, LiesBefore, without}
 use Rattle.cm_pool.specs.Held.{AreHeld, NoneIsLost}
 use Rattle.cm_pool.proofs.SpaceLaws.{taken_is_held, taking_loses_none}
-use Rattle.cm_arena.specs.Chains.{Filled, chunks_of, chain_of, last_of, IsFilled, IsArena}
+use Rattle.cm_arena.specs.Chains.{Filled, chain_chunks, chain_of, last_of, IsFilled, IsArena}
 use Rattle.cm_arena.proofs.ChainFacts.{last-chain_of, filled-at}
 use Rattle.std.proofs.Math.Pow.{pow_mono}
 use Rattle.cm_arena.specs.Placing.{IsNeed}
@@ -39,7 +39,7 @@ filled-exchanged (b ∷ cs) (n ∷ us) zero c e same lt h new = (new, h.1)
 filled-exchanged (b ∷ cs) (n ∷ us) (suc k) c e same lt h new =
     (h.0, filled-exchanged cs us k c e (omega arith) (omega arith) h.1 new)
 
--- the last place of a list that has so many
+-- the last place of a list of this length
 pub last_place : {count size long k : ℕ} → 1 ≤ count → k ≡ count - 1 → count ≡ size → size ≡ long
     → long ≡ suc k
 last_place some before size long = omega (arith, some, before, size, long)
@@ -61,7 +61,7 @@ module _ (cs : List Chunk) (us : List ℕ) (k : ℕ) (is : IsArena cs us)
       subst IsFilled (λ i. record { chunk = sym chunk i; used = sym words i })
       (filled-at cs us k c used is.pairs (omega (arith, len)) is.each)
 
-  -- no chunk has more words
+  -- no chunk has more words in use than a chunk can have
   pub used_few : {used : ℕ} → used ≡ get_or us k used → used ≤ chunk_size 12
   used_few {used} words =
       let nowhere : Chunk = record { root = 0; order = 0; at = 0 } in
@@ -84,7 +84,7 @@ module _ (cs : List Chunk) (us : List ℕ) (k : ℕ) (is : IsArena cs us)
         });
   }
 
--- a chain with a last chunk has one
+-- a chain made of at least one chunk has a last chunk
 pub some_last : (cs : List Chunk) (us : List ℕ) (P : Filled → Type 0) → length cs ≡ length us
     → IsSomeAnd (last_of (chain_of cs us)) P → 1 ≤ length cs
 some_last [] us P same some = absurd some
@@ -93,8 +93,8 @@ some_last (c ∷ cs) us P same some = omega arith
 -- the chunks before the last one stay
 record AreBefore (chain : List Filled) (last c : Chunk) : Type 0 where
   front : List Chunk
-  old : chunks_of chain ≡ front ++ last ∷ []
-  new : chunks_of (with_last chain c) ≡ front ++ c ∷ []
+  old : chain_chunks chain ≡ front ++ last ∷ []
+  new : chain_chunks (with_last chain c) ≡ front ++ c ∷ []
 
 before_last : (chain : List Filled) (f : Filled) (c : Chunk) → last_of chain ≡ Some f
     → AreBefore chain f.chunk c
@@ -110,7 +110,7 @@ before_last (g ∷ h ∷ rest) f c e =
       new = ap (λ cs. g.chunk ∷ cs) more.new;
     }
 
--- ---- which chunk it is
+-- ---- which chunk the words move to
 
 pub one_chunk : {a b : Chunk} → Some a ≡ Some b → a ≡ b
 one_chunk e = cc
@@ -143,7 +143,7 @@ first_is_one p order a b is other =
         let at : a.at ≡ b.at = omega (arith, at_below, at_above) in
         λ i. record { root = root i; order = order i; at = at i }
 
--- where the first free chunk of the order needed isn't better, or there is none, nothing may move
+-- if the first free chunk of the order needed isn't better, or there is none, nothing may move
 pub is_tight : (chain : List Filled) (p : FreeSpace) (c : Chunk) (used need : ℕ)
     → last_of chain ≡ Some (record { chunk = c; used = used }) → IsNeed used need
     → ((to : Chunk) → IsFirstFree p need to → ¬ IsBetter to c) → IsTight chain p
@@ -160,36 +160,37 @@ is_tight chain p c used need last is none from to may =
     one_filled : (f g : Filled) → Some f ≡ Some g → f ≡ g
     one_filled f g e = cc
 
--- ---- who has what then
+-- ---- who holds what after the move
 
 chunks_before : (chain : List Filled) (from to : Chunk) (others : List Chunk)
-    (b : AreBefore chain from to) → chunks_of chain ++ others ≡ b.front ++ from ∷ others
+    (b : AreBefore chain from to) → chain_chunks chain ++ others ≡ b.front ++ from ∷ others
 chunks_before chain from to others b =
     ap (λ cs. cs ++ others) b.old ∙ append_assoc b.front (from ∷ []) others
 
 chunks_then : (chain new : List Filled) (from to : Chunk) (others : List Chunk)
     (b : AreBefore chain from to) → new ≡ with_last chain to
-    → chunks_of new ++ from ∷ others ≡ b.front ++ to ∷ from ∷ others
+    → chain_chunks new ++ from ∷ others ≡ b.front ++ to ∷ from ∷ others
 chunks_then chain new from to others b after =
-    ap (λ (c : List Filled). chunks_of c ++ from ∷ others) after
+    ap (λ (c : List Filled). chain_chunks c ++ from ∷ others) after
     ∙ (ap (λ cs. cs ++ from ∷ others) b.new ∙ append_assoc b.front (to ∷ []) (from ∷ others))
 
 pub moved_is_held : (chain new : List Filled) (p left : FreeSpace) (from to : Chunk)
     (others : List Chunk) → Tightens chain p from to new left
-    → AreHeld p (chunks_of chain ++ others) → AreHeld left (chunks_of new ++ from ∷ others)
+    → AreHeld p (chain_chunks chain ++ others) → AreHeld left (chain_chunks new ++ from ∷ others)
 moved_is_held chain new p left from to others t held =
     let b = before_last chain _ to t.may.last in
-    subst (λ (q : FreeSpace). AreHeld q (chunks_of new ++ from ∷ others)) (sym t.left_is)
+    subst (λ (q : FreeSpace). AreHeld q (chain_chunks new ++ from ∷ others)) (sym t.left_is)
     (subst (AreHeld (without p to)) (sym (chunks_then chain new from to others b t.after))
     (taken_is_held p b.front to (from ∷ others)
     (subst (AreHeld p) (chunks_before chain from to others b) held) t.may.first.free))
 
 pub moving_loses_none : (chain new : List Filled) (p left : FreeSpace) (from to : Chunk)
     (others : List Chunk) → Tightens chain p from to new left
-    → NoneIsLost p (chunks_of chain ++ others) → NoneIsLost left (chunks_of new ++ from ∷ others)
+    → NoneIsLost p (chain_chunks chain ++ others)
+    → NoneIsLost left (chain_chunks new ++ from ∷ others)
 moving_loses_none chain new p left from to others t kept =
     let b = before_last chain _ to t.may.last in
-    subst (λ (q : FreeSpace). NoneIsLost q (chunks_of new ++ from ∷ others)) (sym t.left_is)
+    subst (λ (q : FreeSpace). NoneIsLost q (chain_chunks new ++ from ∷ others)) (sym t.left_is)
     (subst (NoneIsLost (without p to)) (sym (chunks_then chain new from to others b t.after))
     (taking_loses_none p b.front to (from ∷ others)
     (subst (NoneIsLost p) (chunks_before chain from to others b) kept) t.may.first.free))

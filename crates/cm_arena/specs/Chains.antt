@@ -1,6 +1,6 @@
--- What an arena is seen as: a chain of chunks, each with how many of its words are used.
--- As in OpenJDK JEP 387 the metadata of one loader lie in such a chain, and only the last chunk's
--- top moves; the numbers are this project's own.
+-- What an arena is seen as: a chain of chunks, each with how many of its words are used. As in
+-- OpenJDK JEP 387 the metadata of one loader are in such a chain, and only the last chunk is filled
+-- further; the numbers are this project's own.
 use Rattle.std.specs.Prelude.{◌≡◌, ℕ, ◌+◌, ◌≤◌, List, [], ◌∷◌, map, Option, Some, None}
 use Rattle.std.specs.Prelude.{if◌then◌else◌, length, refl}
 use Rattle.std.specs.List.{AllByRecursion}
@@ -14,10 +14,10 @@ pub record Filled : Type 0 where
   pub used : ℕ
 
 -- the chain's chunks, in order
-abbrev pub chunks_of : List Filled → List Chunk
-chunks_of chain = map (λ f. f.chunk) chain
+abbrev pub chain_chunks : List Filled → List Chunk
+chain_chunks chain = map (λ f. f.chunk) chain
 
--- the last one
+-- the last chunk of the chain
 abbrev pub last_of : List Filled → Option Filled
 last_of [] = None
 last_of (f ∷ []) = Some f
@@ -34,19 +34,19 @@ abbrev pub used_of : List Filled → Chunk → Option ℕ
 used_of [] c = None
 used_of (f ∷ rest) c = if same_chunk f.chunk c then Some f.used else used_of rest c
 
--- what is true of each chunk of a chain
+-- what holds for each chunk of a chain
 pub record IsFilled (f : Filled) : Type 0 where
   pub small : f.chunk.order ≤ 12
   pub some : 1 ≤ f.used
   pub within : f.used ≤ chunk_size f.chunk.order
 
--- the chain of chunks and used words that stand side by side
+-- the chain made of the parallel lists of chunks and of used words
 abbrev pub chain_of : List Chunk → List ℕ → List Filled
 chain_of [] used = []
 chain_of (c ∷ chunks) [] = []
 chain_of (c ∷ chunks) (n ∷ used) = record { chunk = c; used = n } ∷ chain_of chunks used
 
--- what an arena keeps
+-- the invariant of an arena
 pub record IsArena (chunks : List Chunk) (used : List ℕ) : Type 0 where
   pub pairs : length chunks ≡ length used
   pub each : AllByRecursion IsFilled (chain_of chunks used)

@@ -1,5 +1,5 @@
--- How an arena's tail moves down: the used words of its last chunk, to a smaller chunk or to one
--- that lies before it.
+-- Compacting an arena: the used words of its last chunk move to a smaller chunk, or to one that is
+-- before it.
 use Rattle.std.specs.Prelude.{◌≡◌, ℕ, ◌<◌, ◌≤◌, ◌⊎◌, List, [], ◌∷◌, Some, IsSomeAnd}
 use Rattle.cm_pool.specs.declared.chunk.Chunk.{Chunk}
 use Rattle.cm_pool.specs.Chunks.{chunk_size}
@@ -18,12 +18,12 @@ pub record HoldsLast (chain : List Filled) (c : Chunk) : Type 0 where
   pub small : c.order ≤ 12
   pub enough : IsSomeAnd (last_of chain) (λ f. f.used ≤ chunk_size c.order)
 
--- a chunk is smaller than another, or lies before it
+-- a chunk is smaller than another, or is before it
 abbrev pub IsBetter : Chunk → Chunk → Type 0
 IsBetter c than = (c.order < than.order) ⊎ LiesBefore c than
 
--- The used words of the last chunk may move to the first free chunk of the order that they need, as
--- it is smaller or lies before.
+-- The used words of the last chunk may move to the first free chunk of the order that they need, if
+-- it is smaller or is before the last chunk.
 pub record MayMove (chain : List Filled) (pool : FreeSpace) (from to : Chunk) : Type 0 where
   pub used : ℕ
   pub last : last_of chain ≡ Some (record { chunk = from; used = used })
@@ -32,13 +32,13 @@ pub record MayMove (chain : List Filled) (pool : FreeSpace) (from to : Chunk) : 
   pub first : IsFirstFree pool need to
   pub better : IsBetter to from
 
--- they move
+-- the used words move
 pub record Tightens (chain : List Filled) (pool : FreeSpace) (from to : Chunk) (new : List Filled)
     (left : FreeSpace) : Type 0 where
   pub may : MayMove chain pool from to
   pub after : new ≡ with_last chain to
   pub left_is : left ≡ without pool to
 
--- they have nowhere to move
+-- the used words have nowhere to move
 abbrev pub IsTight : List Filled → FreeSpace → Type 0
 IsTight chain pool = (from to : Chunk) → ¬ MayMove chain pool from to

@@ -24,8 +24,8 @@ pub struct Arena {
     used: Vec<u32>,
 }
 
-/// Where an arena's used words moved: from its last chunk, which isn't the arena's any more, to
-/// another, which is the last one now.
+/// Where an arena's used words moved: from its last chunk, which no longer belongs to the arena, to
+/// another, which is now the last one.
 #[derive(Clone, Copy, Debug, PartialEq, Eq)]
 pub struct Moved {
     pub from: Chunk,
@@ -46,9 +46,9 @@ impl Model for Arena {
 }
 
 impl Arena {
-    ghost use Rattle.cm_arena.specs.Chains.{chunks_of, used_of};
+    ghost use Rattle.cm_arena.specs.Chains.{chain_chunks, used_of};
     ghost use Rattle.cm_pool.specs.Places.{IsInside};
-    ghost use Rattle.cm_arena.specs.Placing.{Places, IsFull, HasRoom, IsNext, with_place};
+    ghost use Rattle.cm_arena.specs.Placing.{Places, IsFull, HasRoom, IsNextPlace, with_place};
     ghost use Rattle.cm_pool.specs.declared.chunk.Chunk.{Chunk};
     ghost use Rattle.cm_pool.specs.Lists.{Among};
     ghost use Rattle.cm_pool.specs.Held.{AreHeld, NoneIsLost};
@@ -66,39 +66,40 @@ impl Arena {
 
     /// The chunks, in order.
     pub fn chunks(&self) -> &[Chunk]
-        ensures { result.now ≡ chunks_of self.now }
+        ensures { result.now ≡ chain_chunks self.now }
     {
         &self.chunks
     }
 
-    /// How many words at the front of a chunk are used, if the chunk is one of the arena's.
+    /// How many words at the front of a chunk are used, if the arena has the chunk.
     pub fn used_words(&self, chunk: &Chunk) -> Option<u32>
         ensures { result ≡ used_of self.now chunk.now }
     {
         used_words_in(&self.chunks, &self.used, chunk)
     }
 
-    /// Finds a place for the words of a record: on the top of the last chunk where that has room,
-    /// and else at the front of a new one. The new one is of the order that the words need or, in a
-    /// longer chain, of a larger one, up to order 4; where no chunk of the larger order is free, of
-    /// the order needed; and where none of that order is free either, it comes out of a new root.
+    /// Finds a place for the words of a record: after the used words of the last chunk if that has
+    /// room, else at the front of a new one. The new chunk is of the order that the words need or,
+    /// in a longer chain, of a larger one, up to order 4. If no chunk of the larger order is free,
+    /// it is of the order needed; and if none of that order is free either, it comes from a new
+    /// root.
     ///
-    /// The refusal is `RecordTooLong` where a root chunk doesn't hold the words, and else
-    /// `RegionFull` where the last chunk has no room, no chunk of the order needed is free, and all
-    /// roots are present. `NoMemory` comes only where neither does and the last chunk has no room.
-    /// After a refusal arena and pool are as they were.
+    /// Fails with `RecordTooLong` if a root chunk doesn't hold the words; else with `RegionFull` if
+    /// the last chunk has no room, no chunk of the order needed is free, and all roots are present.
+    /// `NoMemory` is returned only if neither applies and the last chunk has no room. After an
+    /// error, arena and pool are unchanged.
     pub fn place(&mut self, words: u32, pool: &mut Pool) -> Result<Place, PlaceRefusal>
         requires { 1 ≤ words }
         ensures ok { IfOk result (λ place. Places self.old pool.old words place self.new pool.new) }
-        // The words lie inside a chunk of this arena. What it has and others have of the pool stays
-        // theirs alone, and no word of the pool is lost.
+        // The words are inside a chunk of this arena. The chunks of the pool that the arena and
+        // others hold share no word, and no word of the pool is lost.
         ensures inside { IfOk result (λ place. IsInside place
-            × Among place.chunk (chunks_of self.new)) }
-        ensures alone { (others : List Chunk) → AreHeld pool.old (chunks_of self.old ++ others)
-            → AreHeld pool.new (chunks_of self.new ++ others) }
+            × Among place.chunk (chain_chunks self.new)) }
+        ensures alone { (others : List Chunk) → AreHeld pool.old (chain_chunks self.old ++ others)
+            → AreHeld pool.new (chain_chunks self.new ++ others) }
         ensures none_lost { (others : List Chunk)
-            → NoneIsLost pool.old (chunks_of self.old ++ others)
-            → NoneIsLost pool.new (chunks_of self.new ++ others) }
+            → NoneIsLost pool.old (chain_chunks self.old ++ others)
+            → NoneIsLost pool.new (chain_chunks self.new ++ others) }
 
         ensures too_long { IsErrOf result PlaceRefusal.RecordTooLong
             ↔ (chunk_size pool.old.geometry.top < words) }
@@ -131,8 +132,8 @@ impl Arena {
         })
     }
 
-    /// Whether [`place`](Arena::place) refuses so many words with `RegionFull`. Takes no memory,
-    /// and leaves the pool as it was.
+    /// Whether [`place`](Arena::place) fails with `RegionFull` for `words` words. Doesn't allocate,
+    /// and leaves the pool unchanged.
     pub fn is_full(&self, words: u32, pool: &mut Pool) -> bool
         requires { 1 ≤ words }
         ensures full { IsTrue result ↔ IsFull self.now pool.old words }
@@ -144,18 +145,18 @@ impl Arena {
         !has_room(&self.chunks, &self.used, words) && !has_free(pool, order_for(words))
     }
 
-    /// Takes over a place that was found again. It has to be the next one: inside its chunk, and
-    /// behind the used words of the last chunk, or at the front of another one. False, and nothing
-    /// is changed, where it isn't.
+    /// Adopts a place that was found in a file. It has to be the next one: inside its chunk, and
+    /// after the used words of the last chunk, or at the front of another chunk. Returns false, and
+    /// changes nothing, if it isn't.
     ///
-    /// That another chunk shares no word with those that are in use is for the caller to see, as by
-    /// [`Pool::take`].
+    /// The caller has to ensure, as by [`Pool::take`], that another chunk shares no word with
+    /// chunks in use.
     pub fn adopt(&mut self, place: Place) -> Result<bool, AllocError>
-        ensures next { IfOk result (λ taken. IsTrue taken ↔ IsNext self.old place) }
+        ensures next { IfOk result (λ taken. IsTrue taken ↔ IsNextPlace self.old place) }
         ensures left { MatchResult result
             (λ taken. self.new ≡ (if taken then with_place self.old place else self.old))
             (λ _. self.new ≡ self.old) }
-        ensures memory { OnErr result (IsNext self.old place) }
+        ensures memory { OnErr result (IsNextPlace self.old place) }
     {
         let offset = next_offset(&self.chunks, &self.used, &place.chunk);
         if place.offset != offset || !place.is_inside() {
@@ -173,8 +174,8 @@ impl Arena {
         Ok(true)
     }
 
-    /// Puts another chunk in the place of the last one, whose used words are then used at the
-    /// other's front, and gives the last one. Takes no memory.
+    /// Replaces the last chunk by another, at whose front as many words are then used, and returns
+    /// the old last one. Doesn't allocate.
     pub fn swap_last(&mut self, chunk: Chunk) -> Chunk
         requires { HoldsLast self.old chunk }
         ensures last { option_map (λ f. f.chunk) (last_of self.old) ≡ Some result }
@@ -187,22 +188,23 @@ impl Arena {
     }
 
     /// Moves the used words of the last chunk to the first free chunk of the least order that holds
-    /// them, at the same offsets, where that chunk is smaller or lies before the last one. `None`,
-    /// and nothing is changed, where there is no last chunk, no such free chunk, or neither of the
-    /// two holds of it. No root is added. The chunk left is the caller's. Takes no memory.
+    /// them, at the same offsets, if that chunk is smaller or is before the last one. Returns
+    /// `None`, and changes nothing, if there is no last chunk, no such free chunk, or if it is
+    /// neither smaller nor before. No root is added. The old chunk then belongs to the caller.
+    /// Doesn't allocate.
     pub fn tighten(&mut self, pool: &mut Pool) -> Option<Moved>
         ensures some { IfSome result
             (λ m. Tightens self.old pool.old m.from m.to self.new pool.new) }
         ensures none { IfNone result (IsTight self.old pool.old
             × ((self.new ≡ self.old) × (pool.new ≡ pool.old))) }
-        // What the arena has, what it left, and what others have of the pool is each one's alone,
-        // and no word of the pool is lost.
+        // The chunks of the arena, the one it left, and those that others hold of the pool share no
+        // word, and no word of the pool is lost.
         ensures alone { IfSome result (λ m. (others : List Chunk)
-            → AreHeld pool.old (chunks_of self.old ++ others)
-            → AreHeld pool.new (chunks_of self.new ++ m.from ∷ others)) }
+            → AreHeld pool.old (chain_chunks self.old ++ others)
+            → AreHeld pool.new (chain_chunks self.new ++ m.from ∷ others)) }
         ensures none_lost { IfSome result (λ m. (others : List Chunk)
-            → NoneIsLost pool.old (chunks_of self.old ++ others)
-            → NoneIsLost pool.new (chunks_of self.new ++ m.from ∷ others)) }
+            → NoneIsLost pool.old (chain_chunks self.old ++ others)
+            → NoneIsLost pool.new (chain_chunks self.new ++ m.from ∷ others)) }
     {
         let last = self.chunks.len().checked_sub(1)?;
         let need = order_for(self.used[last]);
@@ -211,8 +213,8 @@ impl Arena {
         Some(Moved { from, to })
     }
 
-    /// Whether [`tighten`](Arena::tighten) gives nothing. Takes no memory, and leaves the pool as
-    /// it was.
+    /// Whether [`tighten`](Arena::tighten) returns `None`. Doesn't allocate, and leaves the pool
+    /// unchanged.
     pub fn is_tight(&self, pool: &mut Pool) -> bool
         ensures tight { IsTrue result ↔ IsTight self.now pool.old }
         ensures left { pool.new ≡ pool.old }
@@ -228,16 +230,16 @@ impl Arena {
         false
     }
 
-    /// Gives the arena up: its chunks, in order.
+    /// Ends the arena, and returns its chunks in order.
     pub fn release(self) -> Vec<Chunk>
-        ensures { result.items ≡ chunks_of self }
+        ensures { result.items ≡ chain_chunks self }
     {
         let Arena { chunks, used: _ } = self;
         chunks
     }
 }
 
-// How many words of a chunk are used, by the chunks and the used words that stand side by side.
+// How many words of a chunk are used, from the two parallel lists of chunks and of used words.
 fn used_words_in(chunks: &[Chunk], used: &[u32], chunk: &Chunk) -> Option<u32>
     requires { length chunks.now ≡ length used.now }
     ensures { result ≡ used_of (chain_of chunks.now used.now) chunk.now }
@@ -250,7 +252,7 @@ fn used_words_in(chunks: &[Chunk], used: &[u32], chunk: &Chunk) -> Option<u32>
     None
 }
 
-// Whether the last chunk has room for so many words more.
+// Whether the last chunk has room for `words` more words.
 fn has_room(chunks: &[Chunk], used: &[u32], words: u32) -> bool
     requires { IsArena chunks.now used.now }
     ensures { IsTrue result ↔ HasRoom (chain_of chunks.now used.now) words }
@@ -261,7 +263,7 @@ fn has_room(chunks: &[Chunk], used: &[u32], words: u32) -> bool
     words <= chunks[last].size() - used[last]
 }
 
-// Uses so many words more of the last chunk, where it has room for them.
+// Uses `words` more words of the last chunk, if it has room for them.
 fn place_on_top(chunks: &[Chunk], used: &mut Vec<u32>, words: u32) -> Option<Place>
     requires { IsArena chunks.now used.old.items }
     ensures some { IfSome result
@@ -285,7 +287,7 @@ fn place_on_top(chunks: &[Chunk], used: &mut Vec<u32>, words: u32) -> Option<Pla
     })
 }
 
-// Makes room for one chunk more, and says whether there is.
+// Makes room for one more chunk, and returns whether there is.
 fn reserve_one(chunks: &mut Vec<Chunk>, used: &mut Vec<u32>) -> bool
     ensures chunks { chunks.new.items ≡ chunks.old.items }
     ensures used { used.new.items ≡ used.old.items }
@@ -295,7 +297,7 @@ fn reserve_one(chunks: &mut Vec<Chunk>, used: &mut Vec<u32>) -> bool
     chunks.reserve(1).is_ok() && used.reserve(1).is_ok()
 }
 
-// Puts one chunk more behind the others, where there is room for it.
+// Appends one more chunk, if there is room for it.
 fn append(chunks: &mut Vec<Chunk>, used: &mut Vec<u32>, chunk: Chunk, words: u32)
     requires chunk_room { vec_len chunks.old < vec_capacity chunks.old }
     requires used_room { vec_len used.old < vec_capacity used.old }
@@ -306,8 +308,8 @@ fn append(chunks: &mut Vec<Chunk>, used: &mut Vec<u32>, chunk: Chunk, words: u32
     used.push(words).unwrap();
 }
 
-// Where the next words in a chunk go: behind the used ones of the last chunk, and to the front of
-// another.
+// Where the next words in a chunk go: after the used ones of the last chunk, or at the front of
+// another chunk.
 fn next_offset(chunks: &[Chunk], used: &[u32], chunk: &Chunk) -> u32
     requires { length chunks.now ≡ length used.now }
     ensures { result ≡ next_offset_of (chain_of chunks.now used.now) chunk.now }

@@ -6,7 +6,7 @@ ghost use Rattle.cm_arena.specs.Tightening.{IsBetter};
 
 use cm_pool::{Chunk, Pool};
 
-// Whether a chunk is smaller than another, or lies before it.
+// Whether a chunk is smaller than another, or is before it.
 fn is_better(chunk: &Chunk, than: &Chunk) -> bool
     ensures { IsTrue result ↔ IsBetter chunk.now than.now }
 {
@@ -15,7 +15,7 @@ fn is_better(chunk: &Chunk, than: &Chunk) -> bool
         || (chunk.root == than.root && chunk.at < than.at)
 }
 
-/// Takes the first free chunk of an order, where it is better than this one.
+/// Takes the first free chunk of an order, if it is better than this one.
 pub fn take_better(pool: &mut Pool, order: u32, than: &Chunk) -> Option<Chunk>
     ensures some { IfSome result (λ to. IsFirstFree pool.old order to × IsBetter to than.now
         × (pool.new ≡ without pool.old to)) }

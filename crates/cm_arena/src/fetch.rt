@@ -8,7 +8,7 @@ ghost use Rattle.cm_arena.specs.Placing.{IsNeed, IsWanted, IsNeeded, Fetches};
 use crate::refusal::PlaceRefusal;
 use cm_pool::{Chunk, Pool};
 
-/// The least order whose chunks hold so many words.
+/// The least order whose chunks hold `words` words.
 pub fn order_for(words: u32) -> u32
     requires { words ≤ chunk_size 12 }
     ensures need { IsNeed words result }
@@ -34,7 +34,7 @@ pub fn has_free(pool: &mut Pool, order: u32) -> bool
     true
 }
 
-// A chunk of the order wanted, or else of the one needed.
+// A chunk of the order wanted, or else of the order needed.
 fn first_of(pool: &mut Pool, wanted: u32, need: u32) -> Option<Chunk>
     requires needed { need ≤ wanted }
     requires wanted { wanted ≤ pool.old.geometry.top }
@@ -49,8 +49,8 @@ fn first_of(pool: &mut Pool, wanted: u32, need: u32) -> Option<Chunk>
     pool.alloc(need)
 }
 
-/// A chunk of the order wanted, or else of the one needed, or else of the one wanted out of a new
-/// root.
+/// A chunk of the order wanted, else one of the order needed, else one of the order wanted from a
+/// new root.
 pub fn fetch(pool: &mut Pool, wanted: u32, need: u32) -> Result<Chunk, PlaceRefusal>
     requires needed { need ≤ wanted }
     requires wanted { wanted ≤ pool.old.geometry.top }

@@ -1,4 +1,4 @@
-//! Arenas: the chains of chunks in which the metadata of one loader lies (OpenJDK JEP 387).
+//! Arenas: the chains of chunks that hold the metadata of one loader (OpenJDK JEP 387).
 #![tactic(auto)]
 
 mod arena;

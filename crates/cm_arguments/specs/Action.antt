@@ -1,4 +1,4 @@
--- What is kept of the words of a command line.
+-- What the result keeps of the words of a command line.
 use Rattle.std.specs.Prelude.{◌≡◌, ◌<◌, ◌≤◌, ℕ, List, Option, Some, None, Contains, IfSome, codes}
 use Rattle.std.specs.Prelude.{option_map, slice_get, drop, map}
 use Rattle.std.specs.Borrow.{Bor}
@@ -38,7 +38,7 @@ action_workers (Lists path) = None
 action_workers (Trim path) = None
 action_workers (Apply path workers) = Some workers
 
--- the name of its command
+-- the name of the command
 abbrev pub action_command : Action → List ℕ
 action_command (Format path geometry) = codes "format"
 action_command (Check path) = codes "check"
@@ -56,14 +56,14 @@ pub record IsOfWords (words : List (Bor (List ℕ))) (action : Action) : Type 0 
   pub numbers : IfSome (action_geometry action) IsGeometry
   pub workers : IfSome (action_workers action) (λ n. (0 < n) × (n ≤ most_workers))
 
--- its words ask for help
+-- the words request help
 abbrev pub IsHelp : UsageFault → Type 0
 IsHelp (Help text) = Unit {0}
 IsHelp (Words text) = ⊥
 IsHelp NoMemory = ⊥
 
--- its words are wrong
-abbrev pub IsWrong : UsageFault → Type 0
-IsWrong (Help text) = ⊥
-IsWrong (Words text) = Unit {0}
-IsWrong NoMemory = ⊥
+-- the words are wrong
+abbrev pub IsUsageError : UsageFault → Type 0
+IsUsageError (Help text) = ⊥
+IsUsageError (Words text) = Unit {0}
+IsUsageError NoMemory = ⊥

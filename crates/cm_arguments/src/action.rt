@@ -1,11 +1,11 @@
-//! What a command line asks for.
+//! What a command line requests.
 
 use cm_pool::Geometry;
 
-/// What a command line asks for. Paths are words of that line.
+/// What a command line requests. Paths are words of that line.
 #[derive(Clone, Copy, Debug, PartialEq, Eq)]
 pub enum Action<'a> {
-    /// To make an empty cache of that geometry in a new file.
+    /// To make an empty cache with this geometry in a new file.
     Format(&'a str, Geometry),
     /// To check a file for damage.
     Check(&'a str),

@@ -9,7 +9,7 @@ const PROGRAM: &str = "cmcache";
 // The version is that of the newest heading in CHANGELOG.md.
 const ABOUT: &str = "A crash-safe cache of class metadata, version 0.1.0";
 
-// The names of the commands and of what they take.
+// The names of the commands and of their arguments.
 pub const FORMAT: &str = "format";
 
 pub const CHECK: &str = "check";
@@ -24,7 +24,7 @@ pub const FILE: &str = "FILE";
 
 pub const MEMORY: &str = "memory";
 
-/// How a command line says it.
+/// How a command line requests it.
 pub const MEMORY_WORD: &str = "--memory";
 
 fn file<'a>(alloc: Global, help: &'a str) -> Arg<'a> {

@@ -6,13 +6,13 @@ ghost use Rattle.cm_arguments.specs.declared.fault.UsageFault.TheVariants as fau
 use std::alloc::AllocError;
 use thiserror::Error;
 
-/// Why a command line asks for nothing that can be done, with the text to print.
+/// Why a command line requests nothing that can be done, with the text to print.
 #[derive(Debug, Drop, Error)]
 pub enum UsageFault {
-    /// It asks for help: the help text, for standard output.
+    /// Help is requested: the help text, for standard output.
     #[error("{0}")]
     Help(String),
-    /// A usage error: what is wrong with its words, and how the program is used, for standard
+    /// A usage error: what is wrong with the words, and how the program is used, for standard
     /// error.
     #[error("{0}")]
     Words(String),

@@ -1,4 +1,4 @@
-//! What a command line asks of the program.
+//! What a command line requests of the program.
 #![tactic(auto)]
 
 mod action;

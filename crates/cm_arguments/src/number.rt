@@ -12,9 +12,9 @@ use std::alloc::Global;
 pub struct Number {
     /// The option's name.
     pub name: &'static str,
-    /// What it is if it isn't given.
+    /// Its value if it isn't given.
     pub usual: u32,
-    /// The same as a text.
+    /// The same value as a text.
     text: &'static str,
     /// Its limits.
     pub least: u32,

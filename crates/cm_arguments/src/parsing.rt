@@ -1,11 +1,11 @@
-//! From the words of a command line to what it asks for.
+//! From the words of a command line to what it requests.
 ghost use Rattle.std.specs.Prelude.{◌≡◌, ◌≢◌, ◌<◌, ◌≤◌, ◌⊎◌, IfOk, IfSome, Some, Contains};
 ghost use Rattle.std.specs.Prelude.{None, codes, map};
 ghost use Rattle.clap.specs.Words.{first_value, found_of, kind_of};
 ghost use Rattle.clap.specs.declared.error.kind.ErrorKind.TheVariants.{DisplayHelp, DisplayVersion};
 ghost use Rattle.clap.specs.declared.error.kind.ErrorKind.TheVariants.{OutOfMemory};
 ghost use Rattle.clap.specs.declared.error.kind.ErrorKind.TheVariants.{ValueValidation};
-ghost use Rattle.cm_arguments.specs.Action.{IsOfWords, IsHelp, IsWrong, most_workers};
+ghost use Rattle.cm_arguments.specs.Action.{IsOfWords, IsHelp, IsUsageError, most_workers};
 ghost use Rattle.cm_arguments.specs.declared.fault.UsageFault.TheVariants.{NoMemory};
 
 use crate::command::{APPLY, CHECK, FILE, FORMAT, LIST, MEMORY, MEMORY_WORD, TRIM, whole_command};
@@ -19,7 +19,7 @@ use std::alloc::{AllocError, Global};
 /// Reads the words of a command line, which begin after the program's name.
 ///
 /// # Errors
-/// [`UsageFault::Help`] if they ask for help; [`UsageFault::Words`] if they are wrong, or a number
+/// [`UsageFault::Help`] if they request help; [`UsageFault::Words`] if they are wrong, or a number
 /// is outside its limits; [`UsageFault::NoMemory`] if an allocation failed.
 pub fn parse<'a>(alloc: Global, words: &'a [&'a str]) -> Result<Action<'a>, UsageFault>
     ensures { IfOk result (IsOfWords words.now) }
@@ -55,7 +55,7 @@ fn fault_of(alloc: Global, error: &Error) -> UsageFault
     ensures memory { kind_of error.now ≡ OutOfMemory → result ≡ NoMemory }
     ensures help { IsHelp result
         → (kind_of error.now ≡ DisplayHelp) ⊎ (kind_of error.now ≡ DisplayVersion) }
-    ensures words { IsWrong result
+    ensures words { IsUsageError result
         → (kind_of error.now ≢ DisplayHelp) × (kind_of error.now ≢ DisplayVersion) }
 {
     if error.kind() == ErrorKind::OutOfMemory {
@@ -68,8 +68,8 @@ fn fault_of(alloc: Global, error: &Error) -> UsageFault
     }
 }
 
-/// What words ask for that `clap` took. No clause of it says which word is the command or the path,
-/// or that a number is within its limits, so this is looked at again.
+/// What the words that `clap` accepted request. None of its clauses says which word is the command
+/// or the path, or that a number is within its limits, so this is checked again.
 fn action_of<'a>(matches: &ArgMatches<'a>, words: &'a [&'a str]) -> Option<Action<'a>>
     ensures { IfSome result (IsOfWords words.now) }
 {
@@ -85,7 +85,7 @@ fn action_of<'a>(matches: &ArgMatches<'a>, words: &'a [&'a str]) -> Option<Actio
     }
 }
 
-/// If a script is to run: on the cache in a file, or in memory.
+/// Where a script is to run, if one is: on the cache in a file, or in memory.
 fn place_of<'a>(given: &ArgMatches<'a>, words: &'a [&'a str]) -> Option<Option<&'a str>>
     ensures path { IfSome result (λ path. IfSome path (Contains words.now)) }
     ensures memory { IfSome result (λ path.

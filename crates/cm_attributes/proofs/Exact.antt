@@ -1,4 +1,4 @@
--- Readers that pass over exactly what is so, and how they keep that one behind the other.
+-- Readers that skip exactly what satisfies a condition, and how readers in sequence keep this.
 -- For `content_is_its_parts`, `value_is_its_part`.
 use Rattle.std.proofs.Common.{◌≡◌, ℕ, zero, suc, ◌+◌, ◌*◌, ◌<◌, Bool, true, false, cond, List, []}
 use Rattle.std.proofs.Common.{◌∷◌, ◌++◌, length, Option, Some, None, refl, sym, ap, subst, ◌∙◌}
@@ -16,7 +16,7 @@ use Rattle.cm_attributes.specs.Contents.{◌>>=◌, u2_of, u4_of, is_whole, pass
 use Rattle.cm_attributes.specs.Contents.{past_parts, past_many, past_counted}
 use Rattle.cm_attributes.specs.Parts.{Pass, IsRow, AreCounted}
 
--- the bytes begin with what is so, and this is the rest
+-- the bytes begin with what satisfies the condition, and these are the bytes after it
 pub record Begins (IsOne : List ℕ → Type 0) (bytes rest : List ℕ) : Type 0 where
   pub front : List ℕ
   pub is : IsOne front
@@ -27,7 +27,7 @@ pub record Exact (read : List ℕ → Option (List ℕ)) (IsOne : List ℕ → T
       → Begins IsOne bytes rest
   pub again : (front rest : List ℕ) → IsOne front → read (front ++ rest) ≡ Some rest
 
--- ---- one step behind another
+-- ---- one step after another
 
 pub record Bound {A B : Type 0} (o : Option A) (f : A → Option B) (y : B) : Type 0 where
   pub value : A
@@ -47,7 +47,7 @@ tested false x y e = absurd cc
 pub are_rest : (bytes front rest : List ℕ) → AreBytes bytes → bytes ≡ front ++ rest → AreBytes rest
 are_rest bytes front rest are parts = AreBytes-rest front rest (subst AreBytes parts are)
 
--- one part behind another
+-- one part after another
 pub record Both (P Q : List ℕ → Type 0) (bytes : List ℕ) : Type 0 where
   pub first : List ℕ
   pub second : List ℕ
@@ -90,7 +90,7 @@ module _ (r q : List ℕ → Option (List ℕ)) (P Q : List ℕ → Type 0) (one
   pub exact_both : Exact (λ bytes. r bytes >>= λ more. q more) (Both P Q)
   exact_both = record { found = both_found; again = both_again }
 
--- the same in other words
+-- the same for an equivalent condition
 pub exact_as : (r : List ℕ → Option (List ℕ)) (P Q : List ℕ → Type 0) → Exact r P
     → ((l : List ℕ) → P l → Q l) → ((l : List ℕ) → Q l → P l) → Exact r Q
 exact_as r P Q one there back = record {
@@ -241,7 +241,7 @@ exact_row c (part ∷ parts) =
     (exact_part c part) (exact_row c parts))
     (row_there c part parts) (λ l h. row_apart c part parts l h.numbers h.pass h.spelled)
 
--- ---- rows behind their count
+-- ---- rows preceded by their count
 
 record Many (IsOne : List ℕ → Type 0) (n : ℕ) (bytes : List ℕ) : Type 0 where
   rows : List (List ℕ)

@@ -1,4 +1,4 @@
--- The readers of contents pass over exactly the contents.
+-- The readers of contents skip exactly the contents.
 -- For `content_is_its_parts`, `value_is_its_part`.
 use Rattle.std.proofs.Common.{◌≡◌, ◌⊎◌, inl, inr, ℕ, ◌<◌, ◌≤◌, Bool, true, false, cond, List, []}
 use Rattle.std.proofs.Common.{◌∷◌, ◌++◌, length, take, drop, Option, Some, None, refl, sym, ap}
@@ -48,7 +48,7 @@ both_true : (a b : Bool) → (a && b) ≡ true → (a ≡ true) × (b ≡ true)
 both_true true b e = (refl, e)
 both_true false b e = absurd cc
 
--- ---- bytes passed over
+-- ---- skipped bytes
 
 pub record Taken (n : ℕ) (bytes rest : List ℕ) : Type 0 where
   pub front : List ℕ
@@ -86,7 +86,7 @@ abbrev made : ℕ → ℕ → ℕ → ℕ × List ℕ → Handler × List ℕ
 made start end handler catch =
     (record { start = start; end = end; handler = handler; catch = catch.0 }, catch.1)
 
--- four numbers, each in front of what is left
+-- four numbers, each before what is left
 four_parts : (a b c d : ℕ) (bytes p q r rest : List ℕ) → bytes ≡ u2 a ++ p → p ≡ u2 b ++ q
     → q ≡ u2 c ++ r → r ≡ u2 d ++ rest
     → bytes ≡ u2 a ++ (u2 b ++ (u2 c ++ (u2 d ++ rest)))
@@ -392,7 +392,7 @@ module _ (c : ClassFile) where
       (exact_counted (past_handler c size) (IsHandler c size) (exact_handler size))
       (exact_counted (past_attribute c) (IsAttribute c) exact_attribute)
 
-  -- all but stack and locals
+  -- everything but stack and locals
   record IsBody (bytes : List ℕ) : Type 0 where
     code : List ℕ
     some : 0 < length code

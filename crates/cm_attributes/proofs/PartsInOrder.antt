@@ -8,7 +8,7 @@ use Rattle.cm_attributes.specs.declared.part.Part.{Part}
 use Rattle.cm_attributes.specs.Contents.{◌>>=◌, past_part, past_parts}
 
 module _ (c : ClassFile) (some_part : Part) where
-  -- what the parts behind one make of what it leaves
+  -- what the parts after one part do with what it leaves
   abbrev behind_part : List Part → ℕ → Option (List ℕ) → Option (List ℕ)
   behind_part parts i read = read >>= λ rest. past_parts c (drop (i + 1) parts) rest
 

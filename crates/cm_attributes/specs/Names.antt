@@ -1,4 +1,4 @@
--- The attributes that are looked into, by their names (JVMS SE 8, section 4.7).
+-- The attributes whose contents are checked, by their names (JVMS SE 8, section 4.7).
 use Rattle.std.specs.Prelude.{ℕ, Bool, List, length, filter, position, unwrap_or, codes}
 use Rattle.cm_class.specs.Names.{names_utf8}
 use Rattle.cm_class.specs.declared.class_file.Attribute.{Attribute}
@@ -18,7 +18,7 @@ name_of known.EnclosingMethod = codes "EnclosingMethod"
 name_of known.InnerClasses = codes "InnerClasses"
 name_of known.BootstrapMethods = codes "BootstrapMethods"
 
--- an attribute is this one by its name
+-- an attribute is this one, by its name
 unfoldable pub is_known : ClassFile → Known → Attribute → Bool
 is_known c which a = names_utf8 c a.name (name_of which)
 

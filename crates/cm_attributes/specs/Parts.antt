@@ -1,5 +1,5 @@
--- What the content of each attribute is, as JVMS SE 8, section 4.7, lists it: numbers one behind
--- the other, and rows behind their count.
+-- What the content of each attribute is, as JVMS SE 8, section 4.7, lists it: numbers one after
+-- another, and rows preceded by their count.
 use Rattle.std.specs.Prelude.{◌≡◌, ◌⊎◌, ℕ, ◌<◌, ◌≤◌, true, List, [], ◌∷◌, ◌++◌, length, Some}
 use Rattle.std.specs.List.{flat_map, AllByRecursion}
 use Rattle.cm_class.specs.Spelling.{u2, u4, IsU2, IsU4, counted}
@@ -20,13 +20,13 @@ Pass c [] [] = Unit {0}
 Pass c (part ∷ parts) (n ∷ numbers) = IsU2 n × (passes c part n ≡ true) × Pass c parts numbers
 Pass c _ _ = ⊥
 
--- the numbers of the parts
+-- the bytes are the numbers of the parts
 pub record IsRow (c : ClassFile) (parts : List Part) (bytes : List ℕ) : Type 0 where
   pub numbers : List ℕ
   pub pass : Pass c parts numbers
   pub spelled : bytes ≡ flat_map u2 numbers
 
--- rows behind their count
+-- the bytes are rows preceded by their count
 pub record AreCounted (IsOne : List ℕ → Type 0) (bytes : List ℕ) : Type 0 where
   pub rows : List (List ℕ)
   pub count : IsU2 (length rows)
@@ -35,7 +35,7 @@ pub record AreCounted (IsOne : List ℕ → Type 0) (bytes : List ℕ) : Type 0 
 
 -- ---- Code (JVMS 4.7.3)
 
--- in a code of so many bytes
+-- a handler in a code of `size` bytes
 pub record IsHandler (c : ClassFile) (size : ℕ) (bytes : List ℕ) : Type 0 where
   pub start : ℕ
   pub end : ℕ

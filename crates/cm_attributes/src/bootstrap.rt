@@ -6,7 +6,7 @@ use crate::numbers::read_u2;
 use crate::part::{Part, skip_parts, skip_rows};
 use cm_class::{Class, Kind};
 
-/// What stands behind a method handle, a count and that many arguments.
+/// The bytes after a method handle, a count and that many arguments.
 fn skip_bootstrap_method<'b>(class: &Class, bytes: &'b [u8]) -> Option<&'b [u8]>
     ensures { option_copied result ≡ past_bootstrap_method class.now bytes.now }
 {
@@ -14,7 +14,7 @@ fn skip_bootstrap_method<'b>(class: &Class, bytes: &'b [u8]) -> Option<&'b [u8]>
     skip_rows(class, &[Part::Loadable], rest)
 }
 
-/// What stands behind a count, and that many bootstrap methods.
+/// The bytes after a count and that many bootstrap methods.
 pub(crate) fn skip_bootstrap_methods<'b>(class: &Class, bytes: &'b [u8]) -> Option<&'b [u8]>
     ensures { option_copied result ≡ past_counted (past_bootstrap_method class.now) bytes.now }
 {

@@ -7,7 +7,7 @@ use crate::known::{Known, first_place};
 use crate::numbers::read_u2;
 use cm_class::{Attribute, Class};
 
-/// The count that an attribute begins with; 0 where its content is none.
+/// The count that an attribute begins with; 0 if its content is malformed.
 fn stated_count(class: &Class, attribute: &Attribute) -> u16
     ensures { result ≡ stated_count class.now attribute.now }
 {
@@ -21,8 +21,8 @@ fn stated_count(class: &Class, attribute: &Attribute) -> u16
     }
 }
 
-/// How many bootstrap methods the class has: those of its first such attribute; none, where its
-/// content is none.
+/// How many bootstrap methods the class has: those of its first such attribute; none if its content
+/// is malformed.
 #[tactic(auto, unfolding(crate::specs::Contents::bootstrap_count))]
 pub fn bootstrap_count(class: &Class) -> u16
     ensures { result ≡ bootstrap_count class.now }

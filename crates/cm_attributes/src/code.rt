@@ -7,7 +7,7 @@ use crate::numbers::{read_u2, read_u4, skip};
 use crate::part::{Part, passes, skip_parts};
 use cm_class::{Class, Kind};
 
-/// Who handles an exception from `start` to `end`, the latter not included.
+/// A handler of exceptions from `start` to `end`, the latter not included.
 #[derive(Clone, Copy, Debug)]
 pub(crate) struct Handler {
     start: u16,
@@ -33,7 +33,8 @@ fn read_handler(bytes: &[u8]) -> Option<(Handler, &[u8])>
     Some((handler, rest))
 }
 
-/// Whether it guards some of the code's bytes and lies in them, and catches a class or all.
+/// Whether the handler covers some of the code's bytes and is within them, and catches a class or
+/// all.
 fn is_handler(class: &Class, size: u32, handler: Handler) -> bool
     ensures { result ≡ is_handler class.now size handler }
 {
@@ -54,7 +55,7 @@ fn skip_handler<'b>(class: &Class, size: u32, bytes: &'b [u8]) -> Option<&'b [u8
     }
 }
 
-/// What stands behind a count, and that many handlers.
+/// The bytes after a count and that many handlers.
 fn skip_handlers<'b>(class: &Class, size: u32, bytes: &'b [u8]) -> Option<&'b [u8]>
     ensures { option_copied result ≡ past_counted (past_handler class.now size) bytes.now }
 {
@@ -65,7 +66,7 @@ fn skip_handlers<'b>(class: &Class, size: u32, bytes: &'b [u8]) -> Option<&'b [u
     Some(rest)
 }
 
-/// What stands behind an attribute whose name is a Utf8.
+/// The bytes after an attribute whose name is a Utf8.
 fn skip_attribute<'b>(class: &Class, bytes: &'b [u8]) -> Option<&'b [u8]>
     ensures { option_copied result ≡ past_attribute class.now bytes.now }
 {
@@ -74,7 +75,7 @@ fn skip_attribute<'b>(class: &Class, bytes: &'b [u8]) -> Option<&'b [u8]>
     skip(len as usize, rest)
 }
 
-/// What stands behind a count, and that many attributes.
+/// The bytes after a count and that many attributes.
 fn skip_attributes<'b>(class: &Class, bytes: &'b [u8]) -> Option<&'b [u8]>
     ensures { option_copied result ≡ past_counted (past_attribute class.now) bytes.now }
 {
@@ -85,7 +86,7 @@ fn skip_attributes<'b>(class: &Class, bytes: &'b [u8]) -> Option<&'b [u8]>
     Some(rest)
 }
 
-/// How many bytes the code has, 1 to 65,535, and what stands behind them.
+/// How many bytes the code has, 1 to 65,535, and the bytes after them.
 #[tactic(auto, unfolding(crate::specs::Contents::code_of))]
 fn read_code(bytes: &[u8]) -> Option<(u32, &[u8])>
     ensures { option_map (λ x. (x.0, x.1.now)) result ≡ code_of bytes.now }
@@ -98,7 +99,7 @@ fn read_code(bytes: &[u8]) -> Option<(u32, &[u8])>
     Some((size, rest))
 }
 
-/// What stands behind stack, locals, code, handlers and attributes.
+/// The bytes after stack, locals, code, handlers and attributes.
 pub(crate) fn skip_code<'b>(class: &Class, bytes: &'b [u8]) -> Option<&'b [u8]>
     ensures { option_copied result ≡ past_code class.now bytes.now }
 {

@@ -9,16 +9,16 @@ use crate::numbers::is_whole;
 use crate::part::{Part, are_rows, is_row};
 use cm_class::{Class, Kind};
 
-/// JVMS 4.7.9, 4.7.10.
+/// The content is the index of a Utf8 (JVMS 4.7.9, 4.7.10).
 const ONE_UTF8: [Part; 1] = [Part::Names(Kind::Utf8)];
 
-/// Of each exception the class (JVMS 4.7.5).
+/// For each exception, its class (JVMS 4.7.5).
 const EXCEPTION: [Part; 1] = [Part::Names(Kind::Class)];
 
-/// The class around, and the method (JVMS 4.7.7).
+/// The enclosing class, and the method (JVMS 4.7.7).
 const ENCLOSING_METHOD: [Part; 2] = [Part::Names(Kind::Class), Part::ZeroOr(Kind::NameAndType)];
 
-/// Of each inner class itself, the class around, its name and its flags (JVMS 4.7.6).
+/// For each inner class: the class itself, its outer class, its name and its flags (JVMS 4.7.6).
 const INNER_CLASS: [Part; 4] = [
     Part::Names(Kind::Class),
     Part::ZeroOr(Kind::Class),
@@ -26,8 +26,8 @@ const INNER_CLASS: [Part; 4] = [
     Part::Any,
 ];
 
-/// Whether the bytes are a content of this attribute, and nothing else. Of a ConstantValue it isn't
-/// asked which constant it names.
+/// Whether the bytes are a content of this attribute, and nothing else. For a ConstantValue it
+/// isn't checked which constant it names.
 #[tactic(auto, unfolding(crate::specs::Contents::is_content))]
 pub fn is_content(class: &Class, known: Known, bytes: &[u8]) -> bool
     ensures { result ≡ is_content class.now known bytes.now }

@@ -3,7 +3,7 @@ ghost use Rattle.cm_attributes.specs.Names.{is_known, count_of, first_place};
 
 use cm_class::{Attribute, Attributes, Class};
 
-/// The attributes whose contents are looked into (JVMS 4.7).
+/// The attributes whose contents are checked (JVMS 4.7).
 #[derive(Clone, Copy, Debug, PartialEq, Eq)]
 pub enum Known {
     Code,
@@ -41,7 +41,7 @@ impl Known {
     }
 }
 
-/// Whether an attribute of a class, or of its members, is this one by its name.
+/// Whether an attribute of a class, or of its members, is this one, by its name.
 #[tactic(auto, unfolding(crate::specs::Names::is_known))]
 pub fn is_known(class: &Class, known: Known, attribute: &Attribute) -> bool
     ensures { result ≡ is_known class.now known attribute.now }
@@ -73,8 +73,8 @@ fn position_of(class: &Class, known: Known) -> Option<usize>
     None
 }
 
-/// The first place among the attributes of the class itself where this one stands; their number,
-/// where it stands at none.
+/// The first place at which this attribute is among the attributes of the class itself; if it isn't
+/// there, their number.
 #[tactic(auto, unfolding(crate::specs::Names::first_place))]
 pub fn first_place(class: &Class, known: Known) -> usize
     ensures { result ≡ first_place class.now known }

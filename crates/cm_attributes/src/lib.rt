@@ -1,4 +1,4 @@
-//! Attributes that are looked into, and which bytes are their contents (JVMS SE 8, 4.7).
+//! Attributes whose contents are checked, and which bytes these are (JVMS SE 8, 4.7).
 #![tactic(auto)]
 
 mod bootstrap;

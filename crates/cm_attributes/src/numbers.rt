@@ -1,4 +1,4 @@
-//! Numbers in an attribute's content. Each reader answers what it read and the bytes behind it.
+//! Numbers in an attribute's content. Each reader returns what it read and the bytes after it.
 ghost use Rattle.std.specs.Prelude.{◌≡◌, option_copied, option_map};
 ghost use Rattle.cm_attributes.specs.Contents.{u2_of, u4_of, past, is_whole};
 
@@ -22,7 +22,7 @@ pub(crate) fn read_u4(bytes: &[u8]) -> Option<(u32, &[u8])>
     }
 }
 
-/// What stands behind so many bytes.
+/// The bytes after the first `len`.
 pub(crate) fn skip(len: usize, bytes: &[u8]) -> Option<&[u8]>
     ensures { option_copied result ≡ past len bytes.now }
 {
@@ -32,7 +32,7 @@ pub(crate) fn skip(len: usize, bytes: &[u8]) -> Option<&[u8]>
     Some(bytes.split_at(len).1)
 }
 
-/// Whether all was read, and nothing is left.
+/// Whether everything was read, and nothing is left.
 pub(crate) fn is_whole(rest: Option<&[u8]>) -> bool
     ensures { result ≡ is_whole (option_copied rest.entry) }
 {

@@ -7,7 +7,7 @@ ghost use Rattle.cm_attributes.specs.Contents.{past_counted, is_row, are_rows};
 use crate::numbers::{is_whole, read_u2};
 use cm_class::{Class, Constant, Kind};
 
-/// What a number of two bytes in an attribute's content has to be.
+/// What a number of two bytes in an attribute's content must be.
 #[derive(Clone, Copy, Debug)]
 pub(crate) enum Part {
     Any,
@@ -37,7 +37,7 @@ fn is_loadable(class: &Class, index: u16) -> bool
     )
 }
 
-/// Whether a number is what a part has to be.
+/// Whether a number is what a part must be.
 pub(crate) fn passes(class: &Class, part: Part, number: u16) -> bool
     ensures { result ≡ passes class.now part number }
 {
@@ -60,7 +60,7 @@ fn skip_part<'b>(class: &Class, part: Part, bytes: &'b [u8]) -> Option<&'b [u8]>
     }
 }
 
-/// What stands behind a number for each of the parts.
+/// The bytes after one number for each of the parts.
 pub(crate) fn skip_parts<'b>(class: &Class, parts: &[Part], bytes: &'b [u8]) -> Option<&'b [u8]>
     ensures { option_copied result ≡ past_parts class.now parts.now bytes.now }
 {
@@ -71,7 +71,7 @@ pub(crate) fn skip_parts<'b>(class: &Class, parts: &[Part], bytes: &'b [u8]) -> 
     Some(rest)
 }
 
-/// What stands behind a count, and that many rows of the parts.
+/// The bytes after a count and that many rows of the parts.
 pub(crate) fn skip_rows<'b>(class: &Class, parts: &[Part], bytes: &'b [u8]) -> Option<&'b [u8]>
     ensures { option_copied result ≡ past_counted (past_parts class.now parts.now) bytes.now }
 {

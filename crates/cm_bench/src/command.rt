@@ -6,18 +6,18 @@ use std::alloc::{AllocError, Global};
 use std::env;
 use std::rt::Env;
 
-/// What the command line asks for.
+/// What the command line requests.
 #[derive(Clone, Copy, Debug)]
 pub enum Request {
-    /// To run the steps on class files, each in so many timed passes; with none, once and for its
-    /// counts alone.
+    /// To run the steps on class files, each in this many timed passes; with `None`, once, and only
+    /// to print counts.
     Classes(Option<u32>),
-    /// To print what the records of class files say of methods.
+    /// To print what the records of class files say about methods.
     Methods,
-    /// To make calls on accepted caches, in so many timed passes; with none, once and for their
-    /// counts alone.
+    /// To make calls on accepted caches, in this many timed passes; with `None`, once, and only to
+    /// print counts.
     Front(Option<u32>),
-    /// Nothing more: the help or a usage text was printed. The status to end with.
+    /// Nothing more: the help or a usage text was printed. The value is the exit status.
     Printed(u8),
 }
 
@@ -58,7 +58,7 @@ fn whole_command<'a>(alloc: Global) -> Result<Command<'a>, AllocError> {
         .subcommand(front_command(alloc)?)
 }
 
-/// What words ask for that `clap` took; none where they aren't known.
+/// What the words that `clap` accepted request; `None` if they aren't known.
 fn request_of(words: &ArgMatches<'_>) -> Option<Request> {
     let (name, given) = words.subcommand()?;
     match name {
@@ -76,7 +76,7 @@ pub fn read_words(rt: &(impl Env + Print + Eprint + AllocGlobal)) -> Result<Requ
     match whole_command(alloc)?.try_get_matches_from(words.as_slice()) {
         Ok(matches) => match request_of(&matches) {
             Some(request) => Ok(request),
-            None => bail!("the words are not known"),
+            None => bail!("unknown command"),
         },
         Err(error) => {
             error.print(rt)?;

@@ -1,8 +1,8 @@
-//! `cm_bench`: what the parts of a cache cost that need no file.
+//! `cm_bench`: the cost of the parts of a cache that need no file.
 //!
 //! `classes` runs the reader, the rules and the records over class files from standard input, each
 //! preceded by its length in four bytes. `front` makes calls on accepted caches that it fills
-//! itself. Both print counts alone, unless times are asked for. What runs on files is
+//! itself. Both print only counts, unless times are requested. What runs on files is in
 //! `cm_bench_files`.
 #![tactic(auto)]
 
@@ -15,14 +15,14 @@ use anyhow::Result;
 use std::process::ExitCode;
 use std::rt::{Clock, Env};
 
-/// The input, the output, the clock or memory failed.
+/// The input, the output or the clock failed, or an allocation did.
 const FAILED: u8 = 3;
 
 fn main(rt: HostRuntime) -> ExitCode {
     ExitCode::from(run(&rt))
 }
 
-/// Does what the command line asks for, and gives the status.
+/// Does what the command line requests, and returns the status.
 fn run(rt: &(impl Clock + Env + Input + Print + Eprint + AllocGlobal)) -> u8 {
     match read_words(rt).and_then(|request| carry_out(rt, request)) {
         Ok(status) => status,
@@ -33,7 +33,7 @@ fn run(rt: &(impl Clock + Env + Input + Print + Eprint + AllocGlobal)) -> u8 {
     }
 }
 
-/// Does what is asked for, and gives the status to end with.
+/// Does what is requested, and returns the exit status.
 fn carry_out(rt: &(impl Clock + Input + Print + AllocGlobal), request: Request) -> Result<u8> {
     match request {
         Request::Printed(status) => return Ok(status),

@@ -9,12 +9,12 @@ use std::env;
 use std::rt::Env;
 use thiserror::Error;
 
-/// The words ask for nothing that is known.
+/// The words request nothing that is known.
 #[derive(Clone, Copy, Debug, PartialEq, Eq, Error)]
-#[error("the words are not known")]
+#[error("unknown command")]
 struct UnknownWords;
 
-/// How classes are put into a file.
+/// How classes are stored in a file.
 #[derive(Clone, Copy, Debug)]
 pub struct Putting {
     pub geometry: Geometry,
@@ -25,9 +25,9 @@ pub struct Putting {
 /// What is done with a file.
 #[derive(Clone, Copy, Debug)]
 pub enum Task {
-    /// It is made, and the classes on standard input are defined in it.
+    /// The file is made, and the classes on standard input are defined in it.
     Put(Putting),
-    /// It is opened, and each of its classes is looked up.
+    /// The file is opened, and each of its classes is looked up.
     Read,
 }
 
@@ -60,7 +60,7 @@ pub struct Threading {
     pub is_timed: bool,
 }
 
-/// What the command line asks for.
+/// What the command line requests.
 #[derive(Debug, Drop)]
 pub enum Request {
     /// To do a task on a file.
@@ -73,7 +73,7 @@ pub enum Request {
     Printed(u8),
 }
 
-/// An option that takes a whole number, with the usual one and its bounds.
+/// An option that takes a whole number, with its default and its bounds.
 fn number<'a>(
     alloc: Global,
     name: &'a str,
@@ -222,7 +222,7 @@ fn putting_of(given: &ArgMatches<'_>) -> Option<Putting> {
     })
 }
 
-/// The task of a verb; none of one that isn't known.
+/// The task of a verb; `None` for one that isn't known.
 fn task_of(name: &str, given: &ArgMatches<'_>) -> Option<Task> {
     match name {
         "put" => Some(Task::Put(putting_of(given)?)),
@@ -258,7 +258,7 @@ fn threading_of(alloc: Global, given: &ArgMatches<'_>) -> Result<Threading> {
     })
 }
 
-/// What words ask for that `clap` took.
+/// What the words that `clap` accepted request.
 fn request_of(alloc: Global, words: &ArgMatches<'_>) -> Result<Request> {
     let (name, given) = words.subcommand().ok_or(UnknownWords)?;
     match name {

@@ -1,10 +1,10 @@
 //! `cm_bench_files`: what a cache in a file costs, and what threads do in one.
 //!
 //! `put FILE` makes a file and defines the classes on standard input in it; `read FILE` opens one
-//! and looks up each of its classes. `threads FILE` has several threads define them, and
-//! `soak FILE` has threads change the cache in a file for a while and prints what they were
-//! answered. Each but the last prints counts alone, unless times are asked for. What runs in memory
-//! is `cm_bench`.
+//! and looks up each of its classes. `threads FILE` has several threads define them, and `soak
+//! FILE` has threads change the cache in a file for a while and prints the results of their calls.
+//! Each but the last prints only counts, unless times are requested. What runs in memory is
+//! `cm_bench`.
 #![tactic(auto)]
 
 mod command;
@@ -19,14 +19,14 @@ use std::rt::{Clock, Env};
 use std::sync::Wait;
 use std::thread::Threads;
 
-/// The file, the input, the output, the clock or memory failed.
+/// The file, the input, the output, the clock or an allocation failed.
 const FAILED: u8 = 3;
 
 fn main(rt: HostRuntime) -> ExitCode {
     ExitCode::from(run(&rt))
 }
 
-/// Does what the command line asks for, and gives the status.
+/// Does what the command line requests, and returns the status.
 fn run<R>(rt: &R) -> u8
 where
     R: Clock + Env + Files<File = File> + Input + Print + Eprint + AllocGlobal,
@@ -41,7 +41,7 @@ where
     }
 }
 
-/// Does what is asked for, and gives the status to end with.
+/// Does what is requested, and returns the status to end with.
 fn carry_out<R>(rt: &R, request: &Request) -> Result<u8>
 where
     R: Clock + Files<File = File> + Input + Print + AllocGlobal,

@@ -33,7 +33,7 @@ sends_more base before (Group g ∷ sent) x ordered is_on may_be = (
 )
 sends_more base before (End ∷ sent) x ordered is_on may_be = absurd (true≢false (sym is_on))
 
--- each message that is received may have been sent then
+-- each message that is received may have been sent when it was
 may_be_next : (base : Base) (before : List Carried) (got : List Message) (x : Message)
     (items : List Message) → InOrder base before (got ++ x ∷ items)
     → MayBeSent base (before ++ entries_of got) x
@@ -189,7 +189,7 @@ receives port v may x items views h at = (
     known : (port ≡ h.reader) × (v.received ≡ h.received) × (v.base ≡ h.base)
     known = mine.receives may
 
--- the first pass, which has both ends, is cut in two, and then knows what was opened
+-- the first pass, which has both ends, is split in two, and each part then knows what was opened
 pub splits : (port : ℕ) (v : ChannelView) (base : Base) → v ≡ both_ends no_base [] []
     → Forks IsRelayed port v (sender base v.sent) (receiver base v.received)
 splits port v base new items views h at = record {
@@ -306,7 +306,7 @@ totals port v a b items views h at =
 pub learns_nothing : (port : ℕ) (v : ChannelView) → Learns IsRelayed port v (λ items. Unit {0})
 learns_nothing port v items views h at = tt
 
--- once an End was received, all was
+-- once an End was received, everything was received
 pub all_received : (v : ChannelView) (sent got items : List Message) → v.sent ≡ sent
     → v.received ≡ got → IsAll v items → is_open got ≡ false → sent ≡ got
 all_received v sent got items s g all closed =

@@ -1,4 +1,4 @@
--- What was received goes with what is stored, before and after each step of the flusher.
+-- What was received matches what is durable, before and after each step of the flusher.
 -- For `Flushing`, `Ended`.
 use Rattle.std.proofs.Common.{◌≡◌, ℕ, ◌+◌, ◌<◌, ◌≤◌, Bool, true, false, true≢false, List, [], ◌∷◌}
 use Rattle.std.proofs.Common.{◌++◌, Some, None, length, refl, sym, ap, subst, ◌∙◌, arith}
@@ -7,18 +7,18 @@ use Rattle.std.specs.Prelude.{Option, is_some}
 use Rattle.std.proofs.lemmas.List.{length-append, append-nil}
 use Rattle.cm_pool.specs.Geometry.{Sizes}
 use Rattle.cm_layout.specs.declared.row.Row.{Row}
-use Rattle.cm_group.specs.Groups.{Carried, Handed, GoesOn, joined}
+use Rattle.cm_group.specs.Groups.{Carried, Handed, IsContinuedBy, joined_group}
 use Rattle.cm_commit.specs.Offers.{MayCome, rows_after_group}
-use Rattle.cm_commit.specs.States.{Work, Storing, Trimming, CommitterState, Takes}
-use Rattle.cm_machine.specs.Carrying.{CarriesOn, JoinedCarriesOn, CarriedMayCome}
-use Rattle.cm_machine.proofs.{rows_after_two}
+use Rattle.cm_commit.specs.States.{Work, Storing, Trimming, CommitterState, TakesGroup}
+use Rattle.cm_handover.specs.Carrying.{GroupMayFollow, JoinedCarriesOn, CarriedMayCome}
+use Rattle.cm_handover.proofs.{rows_after_two}
 use Rattle.cm_cache.specs.declared.board_view.Seen.{Seen}
 use Rattle.cm_cache.specs.declared.channel.Base.{Base}
 use Rattle.cm_cache.specs.declared.channel.Message.{Message}
 use Rattle.cm_cache.specs.declared.channel.Message.TheVariants.{Group, End}
 use Rattle.cm_cache.specs.Channel.{entries_of, is_open, MayBeSent}
-use Rattle.cm_cache.specs.Storing.{IsStored, IsLeft}
-use Rattle.cm_cache.specs.Flushing.{waiting, WaitsOn, IsAt, FlushingState, IsFlushing}
+use Rattle.cm_cache.specs.Storing.{IsCommittedGroup, IsLeftBroken}
+use Rattle.cm_cache.specs.Flushing.{waiting, WaitsOn, HasCommitted, FlushingState, IsFlushing}
 use Rattle.cm_cache.specs.Flushing.{EndedState, IsEnded, IsOldest}
 use Rattle.cm_cache.proofs.Tied.{entries-append}
 
@@ -108,7 +108,7 @@ module _ {D : Type 0} (base : Base) (failed : ℕ) (failures : D → ℕ) where
       → (i : IsFlushing base failed failures f)
       → f.next ≡ Some next → is_some f.behind ≡ false
       → MayBeSent base (entries_of f.received) (Group group)
-      → CarriesOn base.sizes base.rows base.number (i.done ++ next.entries) group
+      → GroupMayFollow base.sizes base.rows base.number (i.done ++ next.entries) group
   received_more f next group i next_is no_behind may =
       subst (λ l. MayBeSent base l (Group group))
       (i.all
@@ -135,8 +135,8 @@ module _ {D : Type 0} (base : Base) (failed : ℕ) (failures : D → ℕ) where
   pub joined_on : JoinedCarriesOn → (f : FlushingState D) (next group grown : Handed)
       (received : List Message) → IsFlushing base failed failures f → f.next ≡ Some next
       → is_some f.behind ≡ false → f.over ≡ false → received ≡ f.received ++ Group group ∷ []
-      → MayBeSent base (entries_of f.received) (Group group) → GoesOn next group
-      → grown ≡ joined next group
+      → MayBeSent base (entries_of f.received) (Group group) → IsContinuedBy next group
+      → grown ≡ joined_group next group
       → IsFlushing base failed failures (record f { received = received; next = Some grown })
   joined_on law f next group grown received i next_is no_behind going is may goes same = record {
     done = i.done;
@@ -151,7 +151,7 @@ module _ {D : Type 0} (base : Base) (failed : ℕ) (failures : D → ℕ) where
     sound = i.sound;
     idle = i.idle;
     says = i.says;
-    next_on = subst (λ g. CarriesOn base.sizes base.rows base.number i.done g) (sym same)
+    next_on = subst (λ g. GroupMayFollow base.sizes base.rows base.number i.done g) (sym same)
         (law base.sizes base.rows base.number i.done next group
         (subst (WaitsOn base i.done) next_is i.next_on)
         (received_more f next group i next_is no_behind may) goes);
@@ -185,7 +185,7 @@ module _ {D : Type 0} (base : Base) (failed : ℕ) (failures : D → ℕ) where
   -- ---- storing
 
   pub may_be_stored : CarriedMayCome → (f : FlushingState D) (group : Handed)
-      → IsFlushing base failed failures f → f.next ≡ Some group → Takes f.committer group
+      → IsFlushing base failed failures f → f.next ≡ Some group → TakesGroup f.committer group
   may_be_stored law f group i next_is = record {
     sound = i.sound;
     idle = i.idle;
@@ -199,7 +199,7 @@ module _ {D : Type 0} (base : Base) (failed : ℕ) (failures : D → ℕ) where
 
   pub stored : (f : FlushingState D) (group : Handed) (told : ℕ) (committer : CommitterState D)
       (posted : Seen) → IsFlushing base failed failures f → f.next ≡ Some group
-      → IsStored f.committer group told committer
+      → IsCommittedGroup f.committer group told committer
       → failures f.committer.disk ≤ failures committer.disk
       → posted ≡ record { receipt = record { number = told }; broken = f.posted.broken }
       → IsFlushing base failed failures
@@ -242,7 +242,7 @@ module _ {D : Type 0} (base : Base) (failed : ℕ) (failures : D → ℕ) where
 
   pub not_stored : (f : FlushingState D) (group : Handed) (committer : CommitterState D)
       (posted : Seen) → IsFlushing base failed failures f → f.next ≡ Some group
-      → IsLeft f.committer group committer
+      → IsLeftBroken f.committer group committer
       → failures f.committer.disk < failures committer.disk
       → posted ≡ record { receipt = f.posted.receipt; broken = true }
       → IsEnded base failed failures (record {

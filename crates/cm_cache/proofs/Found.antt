@@ -1,4 +1,4 @@
--- What is found has the name that was looked for.
+-- What is found has the requested name.
 -- For `Cache::find`.
 use Rattle.std.proofs.Common.{◌≡◌, ℕ, Bool, true, false, cond, List, [], ◌∷◌, Option, Some, None}
 use Rattle.std.proofs.Common.{refl, sym, ap, ◌∙◌, eqb}

@@ -11,17 +11,17 @@ use Rattle.cm_pool.specs.Geometry.{Sizes}
 use Rattle.cm_layout.specs.declared.row.Row.{Row}
 use Rattle.cm_group.specs.Groups.{Carried, Handed}
 use Rattle.cm_guards.specs.Guards.{EachImage}
-use Rattle.cm_guards.specs.Stages.{Stage, Store, Turn, Settle, Cut, turned, leaves}
+use Rattle.cm_guards.specs.Stages.{Stage, Store, Turn, MakeDurable, Cut, turned, leaves}
 use Rattle.cm_commit.specs.Offers.{rows_after_group}
 use Rattle.cm_commit.specs.States.{Work, Storing, Trimming}
 use Rattle.cm_commit.specs.States.{CommitterState, ShowsCache, ShowsCommitted, ShowsWith, MayLeave}
-use Rattle.cm_machine.specs.Ahead.{AllFollow}
-use Rattle.cm_machine.proofs.{rows_after_two, follow_two}
+use Rattle.cm_handover.specs.Ahead.{AllFollow}
+use Rattle.cm_handover.proofs.{rows_after_two, follow_two}
 use Rattle.cm_cache.specs.declared.channel.Base.{Base}
 use Rattle.cm_cache.specs.declared.channel.Message.{Message}
 use Rattle.cm_cache.specs.declared.channel.Message.TheVariants.{Group, End}
 use Rattle.cm_cache.specs.Channel.{entries_of, InOrder}
-use Rattle.cm_cache.specs.Flushing.{IsAt, IsOldest, EndedState, IsEnded}
+use Rattle.cm_cache.specs.Flushing.{HasCommitted, IsOldest, EndedState, IsEnded}
 use Rattle.cm_cache.specs.Closing.{ShowsBeginning, LeavesBeginning}
 
 -- ---- what was sent follows
@@ -58,11 +58,11 @@ either : (left : List Stage) (before after : List ℕ → Type 0) (image : List 
 either [] before after image l = inl l
 either (Store writes ∷ stages) before after image l = inl l
 either (Turn gate byte ∷ stages) before after image l = at_gate stages before after image l
-either (Settle ∷ stages) before after image l = at_gate stages before after image l
+either (MakeDurable ∷ stages) before after image l = at_gate stages before after image l
 either (Cut len ∷ stages) before after image l = inl l
 
 module _ {D : Type 0} (base : Base) (done : List Carried) (s : CommitterState D)
-    (at : IsAt base done s) where
+    (at : HasCommitted base done s) where
   -- how many are committed
   abbrev least : ℕ
   least = s.number - base.number

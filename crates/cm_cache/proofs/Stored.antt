@@ -1,4 +1,4 @@
--- What the device calls of a group make of a committer.
+-- What the device calls of a group do to a committer.
 -- For `store_group`, `make_calls`.
 use Rattle.std.proofs.Common.{◌≡◌, ℕ, ◌+◌, ◌-◌, ◌<◌, ◌≤◌, Bool, true, false, true≢false, List, []}
 use Rattle.std.proofs.Common.{Some, None, Ok, Err, length, refl, sym, ap, subst, ◌∙◌, arith}
@@ -11,9 +11,9 @@ use Rattle.cm_guards.proofs.{one_call_less}
 use Rattle.cm_commit.specs.declared.progress.AdvanceFault.{AdvanceFault}
 use Rattle.cm_commit.specs.declared.progress.AdvanceFault.TheVariants.{Device, Broken}
 use Rattle.cm_commit.specs.Offers.{rows_after_group}
-use Rattle.cm_commit.specs.States.{Storing, Trimming, CommitterState, Takes, with_taken}
-use Rattle.cm_commit.specs.Advances.{Trims, Advances, HasRisen, Rests, Works, Finishes, Breaks}
-use Rattle.cm_cache.specs.Storing.{SameCommitted, IsUnderway, IsStored, IsLeft}
+use Rattle.cm_commit.specs.States.{Storing, Trimming, CommitterState, TakesGroup, with_taken}
+use Rattle.cm_commit.specs.Advances.{Trims, Advances, HasRisen, Rests, Works, Finishes, CallFails}
+use Rattle.cm_cache.specs.Storing.{SameCommitted, IsUnderway, IsCommittedGroup, IsLeftBroken}
 
 some_is : (a b : Handed) → Some (Storing a) ≡ Some (Storing b) → a ≡ b
 some_is a b e = cc
@@ -22,7 +22,7 @@ module _ {D : Type 0} where
   -- ---- taken
 
   pub taken_is_underway : (view : View D) (s : CommitterState D) (group : Handed)
-      (new : CommitterState D) (calls : ℕ) → Takes s group → new ≡ with_taken view s group
+      (new : CommitterState D) (calls : ℕ) → TakesGroup s group → new ≡ with_taken view s group
       → calls_left new.left ≡ calls + 1 → IsUnderway s group new
   taken_is_underway view s group new calls takes is left = record {
     same = record {
@@ -75,7 +75,8 @@ module _ {D : Type 0} where
       some_left e = none_left s.left e w.more
 
   pub finishes : (old s new : CommitterState D) (receipt : Receipt) (group : Handed)
-      → Finishes s receipt new → IsUnderway old group s → IsStored old group receipt.number new
+      → Finishes s receipt new → IsUnderway old group s
+      → IsCommittedGroup old group receipt.number new
   finishes old s new receipt group f u = record {
     sizes = ap (λ (t : CommitterState D). t.sizes) f.new_is ∙ u.same.sizes;
     rows =
@@ -98,7 +99,7 @@ module _ {D : Type 0} where
           ∙ ap (λ n. n + length group.entries) u.same.number
 
   pub fails : (old s new : CommitterState D) (fault : AdvanceFault) (group : Handed)
-      → Advances s (Err fault) new → IsUnderway old group s → IsLeft old group new
+      → Advances s (Err fault) new → IsUnderway old group s → IsLeftBroken old group new
   fails old s new Device group b u = record {
     same = record {
       sizes = ap (λ (t : CommitterState D). t.sizes) b.new_is ∙ u.same.sizes;
@@ -125,7 +126,7 @@ module _ {D : Type 0} where
       let left = u.left in
       omega (arith, none, left)
 
-  -- it is a group
+  -- what is under way is a group
   pub no_trim : (old s new : CommitterState D) (group : Handed) (roots : ℕ) → Trims s roots new
       → IsUnderway old group s → ⊥
   no_trim old s new group roots t u = differ (sym t.underway ∙ u.group_is)
@@ -133,10 +134,11 @@ module _ {D : Type 0} where
       differ : Some Trimming ≡ Some (Storing group) → ⊥
       differ e = cc
 
-  -- ---- behind the offer
+  -- ---- after the offer
 
   pub stored_from : (old s new : CommitterState D) (group : Handed) (told : ℕ)
-      → SameCommitted old s → IsStored s group told new → IsStored old group told new
+      → SameCommitted old s → IsCommittedGroup s group told new
+      → IsCommittedGroup old group told new
   stored_from old s new group told same is = record {
     sizes = is.sizes ∙ same.sizes;
     rows = is.rows ∙ ap (λ rows. rows_after_group rows group.entries) same.rows;
@@ -147,7 +149,7 @@ module _ {D : Type 0} where
   }
 
   pub left_from : (old s new : CommitterState D) (group : Handed) → SameCommitted old s
-      → IsLeft s group new → IsLeft old group new
+      → IsLeftBroken s group new → IsLeftBroken old group new
   left_from old s new group same is = record {
     same = record {
       sizes = is.same.sizes ∙ same.sizes;
@@ -160,16 +162,16 @@ module _ {D : Type 0} where
 
   pub all_stored_from : (old s new : CommitterState D) (group : Handed) (r : Option Receipt)
       → IsUnderway old group s
-      → IfSome r (λ t. (g : Handed) → IsUnderway s g s → IsStored s g t.number new)
-      → IfSome r (λ t. IsStored old group t.number new)
+      → IfSome r (λ t. (g : Handed) → IsUnderway s g s → IsCommittedGroup s g t.number new)
+      → IfSome r (λ t. IsCommittedGroup old group t.number new)
   all_stored_from old s new group None u h = tt
   all_stored_from old s new group (Some t) u h =
       stored_from old s new group t.number u.same (h group (underway_itself old s group u))
 
   pub all_left_from : (old s new : CommitterState D) (group : Handed) (r : Option Receipt)
       → IsUnderway old group s
-      → IfNone r ((g : Handed) → IsUnderway s g s → IsLeft s g new)
-      → IfNone r (IsLeft old group new)
+      → IfNone r ((g : Handed) → IsUnderway s g s → IsLeftBroken s g new)
+      → IfNone r (IsLeftBroken old group new)
   all_left_from old s new group None u h =
       left_from old s new group u.same (h group (underway_itself old s group u))
   all_left_from old s new group (Some t) u h = tt

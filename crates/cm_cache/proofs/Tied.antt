@@ -1,4 +1,4 @@
--- The accepted cache goes with what was sent, before and after each call.
+-- The accepted cache matches what was sent, before and after each call.
 -- For `Handing`.
 use Rattle.std.proofs.Common.{◌≡◌, ℕ, ◌+◌, ◌-◌, ◌≤◌, Bool, true, List, [], ◌∷◌, ◌++◌, length, Some}
 use Rattle.std.proofs.Common.{refl, sym, ap, subst, ◌∙◌, arith, append_assoc}
@@ -14,11 +14,11 @@ use Rattle.cm_commit.specs.Offers.{filled, rows_after_group}
 use Rattle.cm_front.specs.declared.front.Stranger.{Stranger}
 use Rattle.cm_front.specs.Front.{FrontState, IsFront}
 use Rattle.cm_front.specs.Accepting.{FrontAccepts, begun_by, carried, joined_by, with_learnt}
-use Rattle.cm_machine.specs.Ahead.{IsAhead, pending}
-use Rattle.cm_machine.specs.Handover.{AcceptedIsAhead, HandedIsAhead, LearntIsAhead}
-use Rattle.cm_machine.specs.Handover.{CommittedIsAhead, FailedIsAhead}
-use Rattle.cm_machine.specs.Carrying.{CarriesOn, HandedCarriesOn}
-use Rattle.cm_machine.proofs.{filled_again, rows_after_two}
+use Rattle.cm_handover.specs.Ahead.{IsAhead, pending}
+use Rattle.cm_handover.specs.Handover.{AcceptedIsAhead, HandedIsAhead, LearntIsAhead}
+use Rattle.cm_handover.specs.Handover.{CommittedIsAhead, FailedIsAhead}
+use Rattle.cm_handover.specs.Carrying.{GroupMayFollow, HandedCarriesOn}
+use Rattle.cm_handover.proofs.{filled_again, rows_after_two}
 use Rattle.cm_cache.specs.declared.channel.Base.{Base}
 use Rattle.cm_cache.specs.declared.channel.Message.{Message}
 use Rattle.cm_cache.specs.declared.channel.Message.TheVariants.{Group, End}
@@ -44,7 +44,7 @@ still_open (End ∷ sent) group = refl
 
 -- ---- between two calls
 
--- nothing waits but what was handed out
+-- nothing waits except what was handed out
 nothing_else : (out : List Carried) (s : FrontState) → s.unsealed ≡ [] → pending out s ≡ out
 nothing_else out s none =
     ap (λ l. out ++ flat_map (λ (g : Handed). g.entries) l) none ∙ append-nil out
@@ -135,9 +135,9 @@ module _ (base : Base) (h : HandingState) (change : Change (List ℕ)) (n : ℕ)
   same_learnt = ap (λ (f : FrontState). f.learnt) accepts.after ∙ t.learnt
 
   pub carries_on : AcceptedIsAhead → HandedCarriesOn
-      → CarriesOn base.sizes base.rows base.number (entries_of h.sent) group
+      → GroupMayFollow base.sizes base.rows base.number (entries_of h.sent) group
   carries_on accepted handed =
-      subst (λ (x : Sizes × List Carried). CarriesOn x.0 base.rows base.number x.1 group)
+      subst (λ (x : Sizes × List Carried). GroupMayFollow x.0 base.rows base.number x.1 group)
       (λ i. (same_sizes i, sym t.split i))
       (handed base.rows base.number t.stored t.ahead_by o.between new group o.is_between
       o.is_group (ahead_between accepted) same_learnt o.hands)
@@ -186,7 +186,7 @@ module _ (base : Base) (h : HandingState) (change : Change (List ℕ)) (n : ℕ)
     number_is = accepts.number ∙ ap (λ k. k + 1) (number_tied base h t);
   }
 
--- ---- what is learnt
+-- ---- what the cache learns
 
 pub learnt_is_tied : CommittedIsAhead → LearntIsAhead → (base : Base) (h : HandingState)
     (number : ℕ) → IsTied base h → number ≤ h.front.sealed → IsFront (with_learnt h.front number)
@@ -254,7 +254,7 @@ learn_is_tied commits learns base h number new t (Ok x) known ok err is =
 learn_is_tied commits learns base h number new t (Err e) known ok err is =
     subst (λ f. IsTied base (record { front = f; sent = h.sent })) (sym err) t
 
--- what is learnt says nothing of a failure
+-- learning says nothing about a failure
 pub learn_keeps_broken : (s new : FrontState) (number : ℕ) (r : Result (Unit {0}) Stranger)
     → OnOk r (new ≡ with_learnt s number) → OnErr r (new ≡ s) → new.broken ≡ s.broken
 learn_keeps_broken s new number (Ok x) ok err = ap (λ (f : FrontState). f.broken) ok

@@ -1,4 +1,4 @@
--- The Board: up to which number commands are stored, and whether the device failed.
+-- The Board: up to which number commands are durable, and whether the device failed.
 use Rattle.std.specs.Prelude.{◌≡◌, ℕ, ◌≤◌, ◌==◌, not, Bool, true, false, List, [], ◌∷◌}
 use mathlib.Core.Option.{some}
 use lib.ListN.{get_elem?}
@@ -17,7 +17,7 @@ is_set word = not (word == 0)
 
 -- ---- what its users know
 
--- one that has found this number, and heard of nobody
+-- a user that has found this number, and has heard of nobody
 abbrev pub user : Bool → ℕ → BoardView
 user posts number = record {
   posts = posts;
@@ -33,11 +33,11 @@ poster number = user true number
 abbrev pub reader : ℕ → BoardView
 reader number = user false number
 
--- of the writer, once it has heard what a reader has seen
+-- the view of the writer, once it has heard what a reader has seen
 abbrev pub hearing : BoardView → BoardView → BoardView
 hearing v w = record v { heard_number = w.number; heard_broken = w.broken }
 
--- as contracts see it
+-- the view as contracts describe it
 abbrev pub seen_by : BoardView → Seen
 seen_by v = record { receipt = record { number = v.number }; broken = v.broken }
 
@@ -59,8 +59,7 @@ pub record IsBoard (s : State (Unit {0}) BoardView) : Type 0 where
   pub each : (id : ℕ) (v : BoardView) → get_elem? s.views id ≡ some v
       → FitsBoard seat posted failed id v
 
--- ---- what each step says: of what was known before, the word that was found or written, and what
--- is known after
+-- ---- what each step says
 
 abbrev pub Mine : Type 0
 Mine = Me (Unit {0}) BoardView

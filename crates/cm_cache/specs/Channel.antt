@@ -1,5 +1,5 @@
 -- The channel from the accepted cache to the flusher: what was sent, what was received, and that
--- each group carries on those sent before it.
+-- each group continues those sent before it.
 use Rattle.std.specs.Prelude.{◌≡◌, ℕ, Bool, true, false, List, [], ◌∷◌, ◌++◌}
 use mathlib.Core.Option.{some}
 use lib.ListN.{get_elem?}
@@ -9,7 +9,7 @@ use Rattle.crossbeam_channel.specs.declared.flavors.array.Key.{Key}
 use Rattle.crossbeam_channel.specs.declared.flavors.array.Rows.{Rows}
 use Rattle.crossbeam_channel.specs.Claims.{Pass}
 use Rattle.cm_group.specs.Groups.{Carried}
-use Rattle.cm_machine.specs.Carrying.{CarriesOn}
+use Rattle.cm_handover.specs.Carrying.{GroupMayFollow}
 use Rattle.cm_cache.specs.declared.channel.Base.{Base}
 use Rattle.cm_cache.specs.declared.channel.ChannelView.{ChannelView}
 use Rattle.cm_cache.specs.declared.channel.Message.{Message}
@@ -29,10 +29,10 @@ is_open [] = true
 is_open (Group group ∷ messages) = is_open messages
 is_open (End ∷ messages) = false
 
--- the message may be sent after these entries: a group carries them on
+-- the message may be sent after these entries: a group continues them
 abbrev pub MayBeSent : Base → List Carried → Message → Type 0
 MayBeSent base before (Group group) =
-    CarriesOn base.sizes base.rows base.number before group
+    GroupMayFollow base.sizes base.rows base.number before group
 MayBeSent base before End = Unit {0}
 
 -- each message may be sent after those before it, and none after an End
@@ -56,11 +56,11 @@ abbrev pub both_ends : Base → List Message → List Message → ChannelView
 both_ends base sent received =
     record { sends = true; receives = true; base = base; sent = sent; received = received }
 
--- of a channel that belongs to no cache yet
+-- the base of a channel that belongs to no cache yet
 abbrev pub no_base : Base
 no_base = record { sizes = record { top = 3; roots = 1; slots = 256 }; rows = []; number = 0 }
 
--- after it was joined to the other end
+-- what an end knows after it was joined to the other end
 abbrev pub no_end : ChannelView
 no_end = record { sends = false; receives = false; base = no_base; sent = []; received = [] }
 

@@ -1,5 +1,5 @@
--- What a cache that ran leaves: what was handed over, how much of it is stored, and what the passes
--- counted.
+-- What a cache that ran leaves: what was handed over, how much of it is durable, and what the
+-- passes counted.
 use Rattle.std.specs.Prelude.{◌≡◌, ℕ, ◌+◌, ◌≤◌, true, List, length, take}
 use Rattle.std.specs.List.{All, sum_by}
 use Rattle.cm_disk.specs.Disk.{Unsynced}
@@ -7,7 +7,7 @@ use Rattle.cm_group.specs.Groups.{Carried}
 use Rattle.cm_guards.specs.Guards.{EachImage}
 use Rattle.cm_commit.specs.Offers.{rows_after_group}
 use Rattle.cm_commit.specs.States.{ShowsCache}
-use Rattle.cm_machine.specs.Ahead.{AllFollow}
+use Rattle.cm_handover.specs.Ahead.{AllFollow}
 use Rattle.cm_cache.specs.declared.board_view.Seen.{Seen}
 use Rattle.cm_cache.specs.declared.channel.Base.{Base}
 use Rattle.cm_cache.specs.Shared.{PassState}
@@ -43,8 +43,8 @@ pub record ShowsBeginning (base : Base) (all : List Carried) (least : ℕ)
   pub shows : ShowsCache base.sizes (rows_after_group base.rows (take stored all))
       (base.number + stored) image
 
--- So many commands were handed over, each of which may follow those before it. Whatever a crash
--- leaves holds a beginning of them, and at least as many as are committed.
+-- `handed` commands were handed over, each of which may follow those before it. Whatever a crash
+-- leaves holds a beginning of them, with at least as many as are committed.
 pub record LeavesBeginning (base : Base) (handed committed : ℕ) (contents : List ℕ)
     (unsynced : Unsynced) : Type 0 where
   pub all : List Carried

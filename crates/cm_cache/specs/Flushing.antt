@@ -1,10 +1,10 @@
--- How far what was received is stored, and what waits to be.
+-- How much of what was received is durable, and what waits to be stored.
 use Rattle.std.specs.Prelude.{◌≡◌, ℕ, ◌+◌, ◌<◌, ◌≤◌, Bool, true, false, List, [], ◌++◌, length}
 use Rattle.std.specs.Prelude.{Option, Some, None}
 use Rattle.cm_group.specs.Groups.{Carried, Handed}
 use Rattle.cm_commit.specs.Offers.{rows_after_group}
 use Rattle.cm_commit.specs.States.{Work, Storing, Trimming, CommitterState}
-use Rattle.cm_machine.specs.Carrying.{CarriesOn}
+use Rattle.cm_handover.specs.Carrying.{GroupMayFollow}
 use Rattle.cm_cache.specs.declared.board_view.Seen.{Seen}
 use Rattle.cm_cache.specs.declared.channel.Base.{Base}
 use Rattle.cm_cache.specs.declared.channel.Message.{Message}
@@ -15,13 +15,14 @@ abbrev pub waiting : Option Handed → List Carried
 waiting None = []
 waiting (Some group) = group.entries
 
--- a group that waits carries on these entries
+-- a group that waits continues these entries
 abbrev pub WaitsOn : Base → List Carried → Option Handed → Type 0
 WaitsOn base before None = Unit {0}
-WaitsOn base before (Some group) = CarriesOn base.sizes base.rows base.number before group
+WaitsOn base before (Some group) = GroupMayFollow base.sizes base.rows base.number before group
 
 -- these entries are committed
-pub record IsAt {D : Type 0} (base : Base) (done : List Carried) (s : CommitterState D) : Type 0
+pub record HasCommitted {D : Type 0} (base : Base) (done : List Carried) (s : CommitterState D)
+    : Type 0
   where
     pub sizes : s.sizes ≡ base.sizes
     pub rows : s.rows ≡ rows_after_group base.rows done
@@ -57,7 +58,7 @@ pub record IsFlushing {D : Type 0} (base : Base) (failed : ℕ) (failures : D �
     (f : FlushingState D) : Type 0 where
   pub done : List Carried
   pub all : entries_of f.received ≡ done ++ (waiting f.next ++ waiting f.behind)
-  pub at : IsAt base done f.committer
+  pub at : HasCommitted base done f.committer
   pub sound : f.committer.broken ≡ false
   pub idle : f.committer.underway ≡ None
   pub says : f.posted ≡ record { receipt = record { number = f.committer.number }; broken = false }
@@ -66,7 +67,7 @@ pub record IsFlushing {D : Type 0} (base : Base) (failed : ℕ) (failures : D �
   pub ended : f.over ≡ true → is_open f.received ≡ false
   pub later : failed ≤ failures f.committer.disk
 
--- ---- when no more are
+-- ---- when no more groups are stored
 
 pub record EndedState (D : Type 0) : Type 0 where
   pub committer : CommitterState D
@@ -85,14 +86,14 @@ IsOldest None rest = Unit {0}
 IsOldest (Some Trimming) rest = Unit {0}
 IsOldest (Some (Storing group)) rest = (more : List Carried) × (rest ≡ group.entries ++ more)
 
--- What was received is what is committed, which the Board says, and a rest. There is a rest only
--- if the device failed, and the Board says that too.
+-- What was received is what is committed, which the Board says, and a remainder. There is a
+-- remainder only if the device failed, and the Board says that too.
 pub record IsEnded {D : Type 0} (base : Base) (failed : ℕ) (failures : D → ℕ)
     (e : EndedState D) : Type 0 where
   pub done : List Carried
   pub rest : List Carried
   pub all : entries_of e.received ≡ done ++ rest
-  pub at : IsAt base done e.committer
+  pub at : HasCommitted base done e.committer
   pub says : e.posted.receipt.number ≡ e.committer.number
   pub oldest : IsOldest e.committer.underway rest
   pub whole : e.committer.broken ≡ false → (rest ≡ []) × (e.posted.broken ≡ false)

@@ -1,4 +1,4 @@
--- What is accepted is sent at once: how the accepted cache goes with what was sent.
+-- What is accepted is sent at once: how the accepted cache matches what was sent.
 use Rattle.std.specs.Prelude.{◌≡◌, ℕ, ◌+◌, ◌≤◌, true, List, [], ◌∷◌, ◌++◌, length, Some, Ok, refl}
 use Rattle.std.specs.Coded.{Coded, code_by, coded×, codes}
 use Rattle.cm_layout.specs.declared.row.Row.{Row}
@@ -8,7 +8,7 @@ use Rattle.cm_state.specs.Entries.{change_of}
 use Rattle.cm_commit.specs.Offers.{filled, rows_after_group}
 use Rattle.cm_front.specs.Front.{FrontState, IsFront, front_code}
 use Rattle.cm_front.specs.Accepting.{FrontAnswers, HandsOut}
-use Rattle.cm_machine.specs.Ahead.{IsAhead}
+use Rattle.cm_handover.specs.Ahead.{IsAhead}
 use Rattle.cm_cache.specs.declared.board_view.Seen.{Seen}
 use Rattle.cm_cache.specs.declared.channel.Base.{Base}
 use Rattle.cm_cache.specs.declared.channel.Message.{Message}
@@ -38,7 +38,7 @@ rows_sent base sent = rows_after_group base.rows (entries_of sent)
 abbrev pub number_sent : Base → List Message → ℕ
 number_sent base sent = base.number + length (entries_of sent)
 
--- Nothing that was accepted is held back. What was sent is what the cache has learnt to be stored,
+-- Nothing that was accepted is held back. What was sent is what the cache has learnt to be durable,
 -- followed by the entries by which it is ahead of that.
 pub record IsTied (base : Base) (h : HandingState) : Type 0 where
   pub is : IsFront h.front
@@ -60,14 +60,14 @@ pub record IsFresh (base : Base) (s : FrontState) : Type 0 where
   pub learnt : s.learnt ≡ base.number
   pub none : s.unsealed ≡ []
 
--- what a receipt, a failure and a close alone change
+-- what only a receipt, a failure and a close change
 pub record SameMarks (s new : FrontState) : Type 0 where
   pub learnt : new.learnt ≡ s.learnt
   pub broken : new.broken ≡ s.broken
   pub closed : new.closed ≡ s.closed
 
 -- What was seen on the Board is known from then on; a receipt of a number that wasn't handed out is
--- passed over.
+-- ignored.
 pub record Notices (s : FrontState) (seen : Seen) (new : FrontState) : Type 0 where
   pub broken : seen.broken ≡ true → new.broken ≡ true
   pub learnt : seen.receipt.number ≤ s.sealed → seen.receipt.number ≤ new.learnt

@@ -2,9 +2,9 @@
 use Rattle.std.specs.Prelude.{◌≡◌, ℕ, ◌+◌, ◌≤◌, Bool, true, List, Option, Some, refl}
 use Rattle.std.specs.Prelude.{Result, IfOk, IfErr}
 use Rattle.std.specs.Coded.{Coded, code_by, coded×, coded_ℕ}
-use Rattle.cm_prepare.specs.declared.refusal.Refusal.{Refusal}
-use Rattle.cm_prepare.specs.declared.refusal.Refusal.TheVariants as refusal
-use Rattle.cm_prepare.specs.Refusals.{refusal_number}
+use Rattle.cm_commands.specs.declared.refusal.Refusal.{Refusal}
+use Rattle.cm_commands.specs.declared.refusal.Refusal.TheVariants as refusal
+use Rattle.cm_commands.specs.Refusals.{refusal_number}
 use Rattle.cm_state.specs.Step.{Change}
 use Rattle.cm_front.specs.Front.{FrontState, front_code}
 use Rattle.cm_cache.specs.declared.board_view.Seen.{Seen}
@@ -15,23 +15,23 @@ use Rattle.cm_cache.specs.Handing.{messages_code}
 abbrev pub most_passes : ℕ
 most_passes = 65536
 
--- how many commands were accepted through it, what it saw on the Board, whether a call with it was
--- left unsure, and the last change that was accepted through it, with its number
+-- how many commands were accepted through a pass, what it saw on the Board, whether a call with it
+-- was left unsure, and the last change that was accepted through it, with its number
 pub record PassState : Type 0 where
   pub share : ℕ
   pub seen : Seen
   pub marked : Bool
   pub last : Option (Change (List ℕ) × ℕ)
 
--- a command was accepted through it
+-- one more command was accepted through it
 abbrev pub counted : PassState → Change (List ℕ) → ℕ → PassState
 counted p change n = record p { share = p.share + 1; last = Some (change, n) }
 
--- What a changing call says, from its pass before to its pass after it. `Ok`: the command was
--- accepted with this number through the pass, which has seen a receipt of at least that number.
--- `Unsure`: it was accepted all the same, and the pass is marked. Any other refusal: through the
--- pass nothing was accepted.
-pub record Tells (old : PassState) (change : Change (List ℕ)) (result : Result ℕ Refusal)
+-- What a changing call returns, given its pass before and after it. `Ok`: the command was accepted
+-- with this number through the pass, which has seen a receipt of at least that number. `Unsure`: it
+-- was still accepted, and the pass is marked. Any other refusal: nothing was accepted through the
+-- pass.
+pub record ReportsChange (old : PassState) (change : Change (List ℕ)) (result : Result ℕ Refusal)
     (new : PassState) : Type 0 where
   pub stored : IfOk result (λ n. (n ≤ new.seen.receipt.number)
       × (new ≡ record (counted old change n) { seen = new.seen }))

@@ -9,9 +9,9 @@ use Rattle.cm_cache.specs.declared.new_cache.NewCache.{NewCache}
 use Rattle.cm_cache.specs.Channel.{ChannelId, channel_of}
 use Rattle.cm_cache.specs.Handing.{IsFresh}
 use Rattle.cm_cache.specs.Shared.{most_passes}
-use Rattle.cm_cache.specs.Flushing.{IsAt}
+use Rattle.cm_cache.specs.Flushing.{HasCommitted}
 
--- channel, Board and ledger are those by which the cache is named
+-- channel, Board and ledger are those that the cache is named by
 pub record Belongs (base : Base) (channel : ChannelId) (board : TableId) (name parts : ℕ)
     (new : NewCache) : Type 0 where
   pub channel_is : channel_of (sends_on new.channel.sender) ≡ channel
@@ -20,12 +20,12 @@ pub record Belongs (base : Base) (channel : ChannelId) (board : TableId) (name p
   pub name_is : new.ledger.name ≡ name
   pub parts_is : parts ≡ most_passes
 
--- the accepted cache and the committer of what was opened, as they are then, with the count of the
--- disk's failures
+-- the accepted cache and the committer of what was opened, as they are at the start, with the count
+-- of the disk's failures
 pub record MayStart {D : Type 0} (base : Base) (failed : ℕ) (failures : D → ℕ) (front : FrontState)
     (committer : CommitterState D) : Type 0 where
   pub fresh : IsFresh base front
-  pub at : IsAt base [] committer
+  pub at : HasCommitted base [] committer
   pub sound : committer.broken ≡ false
   pub idle : committer.underway ≡ None
   pub failed_is : failed ≡ failures committer.disk

@@ -5,7 +5,7 @@ use Rattle.cm_guards.specs.Stages.{calls_left}
 use Rattle.cm_commit.specs.Offers.{rows_after_group}
 use Rattle.cm_commit.specs.States.{Storing, CommitterState}
 
--- the same is committed
+-- what is committed is the same
 pub record SameCommitted {D : Type 0} (old new : CommitterState D) : Type 0 where
   pub sizes : new.sizes ≡ old.sizes
   pub rows : new.rows ≡ old.rows
@@ -20,8 +20,8 @@ pub record IsUnderway {D : Type 0} (old : CommitterState D) (group : Handed)
   pub some : ℕ
   pub left : calls_left new.left ≡ some + 1
 
--- the group is committed, and its last number is told
-pub record IsStored {D : Type 0} (old : CommitterState D) (group : Handed) (told : ℕ)
+-- the group is committed, and its last number is returned
+pub record IsCommittedGroup {D : Type 0} (old : CommitterState D) (group : Handed) (told : ℕ)
     (new : CommitterState D) : Type 0 where
   pub sizes : new.sizes ≡ old.sizes
   pub rows : new.rows ≡ rows_after_group old.rows group.entries
@@ -31,7 +31,7 @@ pub record IsStored {D : Type 0} (old : CommitterState D) (group : Handed) (told
   pub is_told : told ≡ new.number
 
 -- the device failed while the group was under way
-pub record IsLeft {D : Type 0} (old : CommitterState D) (group : Handed)
+pub record IsLeftBroken {D : Type 0} (old : CommitterState D) (group : Handed)
     (new : CommitterState D) : Type 0 where
   pub same : SameCommitted old new
   pub broken : new.broken ≡ true

@@ -1,4 +1,4 @@
-//! The Board, on which the flusher writes how far commands are stored.
+//! The Board, on which the flusher writes how far commands are durable.
 
 ghost use Rattle.std.specs.Prelude.{◌≡◌, ◌≤◌, ◌⊎◌, [], true, false, IfOk};
 ghost use Rattle.cm_cache.specs.Board.{poster as poster_view};
@@ -32,7 +32,7 @@ pub struct NewBoard {
 }
 
 impl NewBoard {
-    /// A Board that says that all commands up to this number are stored, and that nothing failed.
+    /// A Board that says that all commands up to this number are durable, and that nothing failed.
     pub fn new(alloc: Global, number: u64) -> Result<NewBoard, AllocError>
         ensures { IfOk result (λ b. b.number ≡ number) }
     {
@@ -64,7 +64,7 @@ impl NewBoard {
     }
 }
 
-/// Says up to which number commands are stored, and whether the device failed. What it says never
+/// Says up to which number commands are durable, and whether the device failed. What it says never
 /// goes back.
 #[derive(Drop)]
 pub struct Board<K: Naming> {
@@ -97,7 +97,7 @@ impl<K: Naming> Board<K> {
     }
 }
 
-/// The right to write on the Board. Contracts see it as what the Board says.
+/// The right to write on the Board. Contracts describe it by what the Board says.
 #[derive(Drop)]
 pub struct Poster<K: Naming> {
     seat: Seat<(), BoardView>,
@@ -118,7 +118,7 @@ impl<K: Naming> Model for Poster<K> {
 }
 
 impl<K: Naming> Poster<K> {
-    /// Writes that all commands up to the receipt's number are stored, and wakes the readers.
+    /// Writes that all commands up to the receipt's number are durable, and wakes the readers.
     pub fn post<R: Wait>(&mut self, rt: &R, board: &Board<K>, receipt: Receipt)
         requires { self.old.receipt.number ≤ receipt.number }
         ensures { self.new ≡ record { receipt = receipt; broken = self.old.broken } }
@@ -166,8 +166,8 @@ impl<K: Naming> Poster<K> {
     }
 }
 
-/// A reader of the Board. Contracts see it as what it has seen, which the Board says or said: a
-/// read alone changes it.
+/// A reader of the Board. Contracts describe it by what it has seen, which the Board says or said:
+/// only a read changes it.
 #[derive(Drop)]
 pub struct Reader<K: Naming> {
     seat: Seat<(), BoardView>,
@@ -222,7 +222,7 @@ impl<K: Naming> Reader<K> {
         shared.load::<SeesBroken>(&mut self.seat, BROKEN) != 0
     }
 
-    /// Waits until the Board says that all commands up to this number are stored, or that the
+    /// Waits until the Board says that all commands up to this number are durable, or that the
     /// device failed. Takes the Board's own lock, and no other.
     pub fn wait_for<R: Wait>(&mut self, rt: &R, board: &Board<K>, number: u64) -> Seen
         ensures seen { self.new ≡ result }

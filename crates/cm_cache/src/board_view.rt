@@ -5,7 +5,7 @@ use cm_group::Receipt;
 /// What was seen on the Board.
 #[derive(Clone, Copy, Debug, PartialEq, Eq)]
 pub struct Seen {
-    /// All commands up to its number are stored.
+    /// All commands up to its number are durable.
     pub receipt: Receipt,
     /// The device failed, so no further receipt comes.
     pub broken: bool,

@@ -6,9 +6,9 @@ ghost use Rattle.std.specs.Arc.{arc_value};
 ghost use Rattle.cm_record.specs.Names.{class_name_in};
 ghost use Rattle.cm_group.specs.Groups.{IsRightRecord};
 ghost use Rattle.cm_state.specs.Step.{AddLoader, Define, Unload, Tighten, UnloadAll};
-ghost use Rattle.cm_prepare.specs.Commands.{change_asked};
-ghost use Rattle.cm_prepare.specs.declared.refusal.Refusal.TheVariants as refusal;
-ghost use Rattle.cm_cache.specs.Shared.{PassState, Tells, most_passes};
+ghost use Rattle.cm_commands.specs.Commands.{change_asked};
+ghost use Rattle.cm_commands.specs.declared.refusal.Refusal.TheVariants as refusal;
+ghost use Rattle.cm_cache.specs.Shared.{PassState, ReportsChange, most_passes};
 ghost use Rattle.cm_cache.specs.Starting.{Belongs, MayStart};
 ghost use Rattle.cm_cache.specs.Closing.{LeavesBeginning};
 
@@ -19,17 +19,17 @@ use crate::handing::Handing;
 use crate::naming::Naming;
 use crate::new_cache::NewCache;
 use crate::shared::{Pass, Shared};
+use cm_commands::{Command, Names, Prepared, Refusal};
 use cm_commit::Committer;
 use cm_disk::Disk;
 use cm_front::Front;
-use cm_prepare::{Command, Names, Prepared, Refusal};
 use cm_record::Record;
 use cm_state::rows_tell_state;
 use std::alloc::{AllocError, Global};
 use std::sync::{Arc, Mutex, Wait};
 use std::thread::Threads;
 
-/// A cache that runs, whose commands another thread stores, its [`Flusher`]. Many threads use it at
+/// A running cache, whose commands another thread stores, its [`Flusher`]. Many threads use it at
 /// once.
 #[derive(Drop)]
 pub struct Cache<K: Naming> {
@@ -130,15 +130,15 @@ impl<K: Naming> Cache<K> {
     /// Makes a loader of this name, without classes.
     ///
     /// Each changing call waits for the lock, and then, without it, until its command is stored; it
-    /// answers the command's number. `Unsure` if the device failed first: the command may be
-    /// there once the file is opened again. Any other refusal is of [`Front::accept`].
+    /// returns the command's number. `Unsure` if the device failed first: the command may be there
+    /// once the file is opened again. Any other refusal is one of [`Front::accept`].
     pub fn add_loader<R: Wait>(
         &self,
         rt: &R,
         pass: &mut Pass<K>,
         name: &[u8],
     ) -> Result<u64, Refusal>
-        ensures { Tells pass.old (AddLoader name.now) result pass.new }
+        ensures { ReportsChange pass.old (AddLoader name.now) result pass.new }
     {
         self.change(rt, pass, Command::AddLoader(name))
     }
@@ -151,36 +151,37 @@ impl<K: Naming> Cache<K> {
         loader: &[u8],
         class: Prepared,
     ) -> Result<u64, Refusal>
-        ensures { Tells pass.old (Define loader.now class) result pass.new }
+        ensures { ReportsChange pass.old (Define loader.now class) result pass.new }
     {
         self.change(rt, pass, Command::Define(loader, class))
     }
 
     /// Unloads the loader of this name, with all its classes.
     pub fn unload<R: Wait>(&self, rt: &R, pass: &mut Pass<K>, name: &[u8]) -> Result<u64, Refusal>
-        ensures { Tells pass.old (Unload name.now) result pass.new }
+        ensures { ReportsChange pass.old (Unload name.now) result pass.new }
     {
         self.change(rt, pass, Command::Unload(name))
     }
 
     /// Moves the records on the last chunk of the loader of this name to a smaller chunk, or to one
-    /// that lies before it; what is found stays. `NoMove` if there is no such chunk.
+    /// that lies before it; what [`Cache::find`] returns stays the same. `NoMove` if there is no
+    /// such chunk.
     pub fn tighten<R: Wait>(&self, rt: &R, pass: &mut Pass<K>, name: &[u8]) -> Result<u64, Refusal>
-        ensures { Tells pass.old (Tighten name.now) result pass.new }
+        ensures { ReportsChange pass.old (Tighten name.now) result pass.new }
     {
         self.change(rt, pass, Command::Tighten(name))
     }
 
     /// Unloads the loaders of these names at once, with all their classes: all of them or none,
-    /// under one number. `BadList` if there is no name, there are more than seven, or one stands
-    /// there twice.
+    /// under one number. `BadList` if there is no name, there are more than seven, or one appears
+    /// twice.
     pub fn unload_all<R: Wait>(
         &self,
         rt: &R,
         pass: &mut Pass<K>,
         names: Names<'_>,
     ) -> Result<u64, Refusal>
-        ensures { Tells pass.old (UnloadAll names.entry) result pass.new }
+        ensures { ReportsChange pass.old (UnloadAll names.entry) result pass.new }
     {
         self.change(rt, pass, Command::UnloadAll(names))
     }
@@ -191,7 +192,7 @@ impl<K: Naming> Cache<K> {
         pass: &mut Pass<K>,
         command: Command<'_>,
     ) -> Result<u64, Refusal>
-        ensures { Tells pass.old (change_asked command.entry) result pass.new }
+        ensures { ReportsChange pass.old (change_asked command.entry) result pass.new }
     {
         let seen = pass.look(&self.board);
         let held = self.shared.lock(rt).hold(rt, pass, seen, command);
@@ -205,8 +206,8 @@ impl<K: Naming> Cache<K> {
     }
 
     /// The record of the class of a name in the loader of a name, as accepted, whether or not it is
-    /// stored; also once the cache is stopped, or the device failed. `Err` if an allocation
-    /// failed. Waits for the lock alone.
+    /// durable; also once the cache is stopped, or the device failed. `Err` if an allocation
+    /// failed. Waits only for the lock.
     pub fn find<R: Wait>(
         &self,
         rt: &R,
@@ -226,8 +227,8 @@ impl<K: Naming> Cache<K> {
         self.shared.lock(rt).stop();
     }
 
-    /// Stores all that was handed over, unless the device fails; ends the flusher, and gives the
-    /// disk back. Takes the passes back, and counts what was accepted through them. Waits for the
+    /// Stores all that was handed over, unless the device fails; ends the flusher, and returns the
+    /// disk. Takes the passes back, and counts what was accepted through them. Waits for the
     /// flusher.
     pub fn close<R, D>(self, rt: &R, flusher: Flusher<K, D>, passes: Vec<Pass<K>>) -> Closed<D>
     where

@@ -1,5 +1,5 @@
 //! The rule of the channel: what was received is a beginning of what was sent, and each group
-//! carries on those sent before it.
+//! continues those sent before it.
 
 use crate::channel::{ChannelView, Message};
 use crate::naming::Naming;

@@ -30,7 +30,7 @@ pub struct NewChannel {
 }
 
 impl NewChannel {
-    /// Takes the memory for all messages that the channel holds at once.
+    /// Allocates room for all messages that the channel holds at once.
     pub fn new(alloc: Global) -> Result<NewChannel, AllocError> {
         let (sender, receiver, pass) = bounded_with(alloc, PLACES)?;
         Ok(NewChannel {
@@ -66,7 +66,7 @@ impl NewChannel {
     }
 }
 
-/// The end that sends. Contracts see it as all that was sent, oldest first.
+/// The end that sends. Contracts describe it by all that was sent, oldest first.
 #[derive(Drop)]
 pub struct Outgoing<K: Naming> {
     sender: RuledSender<Message, ChannelView, ChannelRule>,
@@ -91,7 +91,7 @@ impl<K: Naming> Model for Outgoing<K> {
         × (known_to o.pass ≡ sender_view K.base (known_to o.pass).sent) };
 }
 
-/// The end that receives. Contracts see it as all that was received, oldest first.
+/// The end that receives. Contracts describe it by all that was received, oldest first.
 #[derive(Drop)]
 pub struct Incoming<K: Naming> {
     receiver: RuledReceiver<Message, ChannelView, ChannelRule>,
@@ -118,7 +118,7 @@ impl<K: Naming> Model for Incoming<K> {
 }
 
 impl<K: Naming> Outgoing<K> {
-    /// Sends a message: a group that carries on those that were sent, or the End, after which
+    /// Sends a message: a group that continues those that were sent, or the End, after which
     /// nothing is sent. Waits while the channel is full.
     pub fn send<R: Wait>(&mut self, rt: &R, message: Message)
         requires still_open { is_open self.old ≡ true }
@@ -167,8 +167,8 @@ impl<K: Naming> Outgoing<K> {
 }
 
 impl<K: Naming> Incoming<K> {
-    /// Receives the next message, which was sent after those received before: a group carries them
-    /// on. Waits while there is none.
+    /// Receives the next message, which was sent after those received before: a group continues
+    /// them. Waits while there is none.
     pub fn receive<R: Wait>(&mut self, rt: &R) -> Message
         ensures received { self.new ≡ self.old ++ result ∷ [] }
         ensures may { MayBeSent K.base (entries_of self.old) result }
@@ -192,8 +192,8 @@ impl<K: Naming> Incoming<K> {
             .ok()
     }
 
-    /// Receives the next message without waiting for one. `None` if it finds none; there may be
-    /// one all the same while another thread is sending.
+    /// Receives the next message without waiting for one. `None` if it finds none; there may still
+    /// be one while another thread is sending.
     pub fn receive_now<R: Wait>(&mut self, rt: &R) -> Option<Message>
         ensures received { IfSome result (λ m. self.new ≡ self.old ++ m ∷ []) }
         ensures may { IfSome result (λ m. MayBeSent K.base (entries_of self.old) m) }

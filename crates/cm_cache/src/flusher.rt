@@ -32,7 +32,7 @@ where
     K: Naming + Send + Sync + 'static,
     D: Disk + Drop + Send + 'static,
 {
-    /// Starts the thread. `Err` if it can't be started: then what it was to use is dropped.
+    /// Starts the thread. `Err` if it can't be started: whatever it was to use is then dropped.
     pub(crate) fn spawn<R>(
         rt: &R,
         flushing: Flushing<K, D>,

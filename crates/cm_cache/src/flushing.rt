@@ -1,9 +1,9 @@
-//! Storing what is received, group by group.
+//! Stores what is received, group by group.
 
 ghost use Rattle.std.specs.Prelude.{◌≡◌, ◌-◌, ◌≤◌, [], true, false, None, IfErr, length};
 ghost use Rattle.cm_cache.specs.Channel.{entries_of};
 ghost use Rattle.cm_cache.specs.Handing.{number_sent};
-ghost use Rattle.cm_cache.specs.Flushing.{IsAt, IsEnded};
+ghost use Rattle.cm_cache.specs.Flushing.{HasCommitted, IsEnded};
 ghost use Rattle.cm_cache.specs.Closing.{LeavesBeginning};
 
 use crate::board::{Board, Poster};
@@ -14,13 +14,14 @@ use crate::storing::store_group;
 use cm_commit::Committer;
 use cm_disk::Disk;
 use cm_group::Group;
-use cm_machine::groups_carry_on;
+use cm_handover::groups_may_follow;
 use std::marker::Model;
 use std::sync::Wait;
 
-/// Stores what it receives, in order, and writes on the Board how far it is.
+/// Stores what it receives, in order, and writes on the Board how far it has come.
 ///
-/// Contracts see its committer, what was received, what the Board says, and the groups that wait.
+/// Contracts describe it by its committer, what was received, what the Board says, and the groups
+/// that wait.
 #[derive(Drop)]
 pub struct Flushing<K: Naming, D: Disk> {
     committer: Committer<D>,
@@ -45,7 +46,7 @@ impl<K: Naming, D: Disk> Model for Flushing<K, D> {
 
 /// What is left once nothing more is stored: the End was received, or the device failed.
 ///
-/// Contracts see the committer, what was received, and what the Board says.
+/// Contracts describe it by the committer, what was received, and what the Board says.
 #[derive(Drop)]
 pub struct Ended<K: Naming, D: Disk> {
     committer: Committer<D>,
@@ -66,10 +67,10 @@ impl<K: Naming, D: Disk> Model for Ended<K, D> {
 }
 
 impl<K: Naming, D: Disk> Flushing<K, D> {
-    /// With a committer of what was opened, a channel over which nothing was received, and a Board
-    /// that says so.
+    /// The flusher for a committer of what was opened, a channel over which nothing was received,
+    /// and a Board that says so.
     pub fn new(committer: Committer<D>, incoming: Incoming<K>, poster: Poster<K>) -> Flushing<K, D>
-        requires at { IsAt K.base [] committer }
+        requires at { HasCommitted K.base [] committer }
         requires sound { committer.broken ≡ false }
         requires idle { committer.underway ≡ None }
         requires received { incoming ≡ [] }
@@ -120,11 +121,11 @@ impl<K: Naming, D: Disk> Flushing<K, D> {
         }
     }
 
-    /// The same with one group. `false` if none was joined.
+    /// The same with one group. Returns `false` if none was joined.
     fn join_one<R: Wait>(&mut self, rt: &R) -> bool
         ensures { self.new.committer ≡ self.old.committer }
     {
-        groups_carry_on();
+        groups_may_follow();
         if self.over || self.behind.is_some() {
             return false;
         }
@@ -160,7 +161,7 @@ impl<K: Naming, D: Disk> Flushing<K, D> {
     fn store<R: Wait>(self, rt: &R, board: &Board<K>) -> Result<Flushing<K, D>, Ended<K, D>>
         ensures { IfErr result (λ e. e.committer.broken ≡ true) }
     {
-        groups_carry_on();
+        groups_may_follow();
         let Flushing {
             mut committer,
             incoming,
@@ -204,7 +205,7 @@ impl<K: Naming, D: Disk> Flushing<K, D> {
         }
     }
 
-    /// Whether the End came and all that was received is stored.
+    /// Whether the End came and all that was received is durable.
     fn is_done(&self) -> bool
         ensures { result ≡ true
             → (self.now.over ≡ true) × (self.now.next ≡ None) × (self.now.behind ≡ None) }
@@ -212,7 +213,7 @@ impl<K: Naming, D: Disk> Flushing<K, D> {
         self.over && self.next.is_none() && self.behind.is_none()
     }
 
-    /// Stores nothing more, once all is stored.
+    /// Ends the storing, once all is durable.
     fn end(self) -> Ended<K, D>
         requires over { self.over ≡ true }
         requires none { (self.next ≡ None) × (self.behind ≡ None) }
@@ -292,7 +293,7 @@ impl<K: Naming, D: Disk> Ended<K, D> {
         }
     }
 
-    /// Gives the disk back, once both ends of the channel are in one thread: with the number of the
+    /// Returns the disk, once both ends of the channel are in one thread: with the number of the
     /// last command that is committed, and the poster of the Board.
     pub(crate) fn leave(self, outgoing: Outgoing<K>) -> (u64, Poster<K>, D)
         requires over { self.over ≡ true }

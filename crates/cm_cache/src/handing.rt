@@ -1,7 +1,7 @@
 //! The accepted cache, which sends each command that it accepts to the flusher at once.
 
 ghost use Rattle.std.specs.Prelude.{◌≡◌, ◌<◌, ◌≤◌, [], ◌∷◌, ◌++◌, true, false, IfOk, IfErr, OnErr};
-ghost use Rattle.cm_prepare.specs.Commands.{change_asked};
+ghost use Rattle.cm_commands.specs.Commands.{change_asked};
 ghost use Rattle.cm_front.specs.Front.{IsFront};
 ghost use Rattle.cm_front.specs.Accepting.{with_learnt, IsReason};
 ghost use Rattle.cm_cache.specs.declared.channel.Message.TheVariants.{End};
@@ -12,15 +12,15 @@ use crate::board_view::Seen;
 use crate::channel::Message;
 use crate::ends::Outgoing;
 use crate::naming::Naming;
+use cm_commands::{Command, Refusal};
 use cm_front::Front;
 use cm_group::{Group, Receipt};
-use cm_machine::{ahead_stays_ahead, groups_carry_on, handed_groups_are_next};
-use cm_prepare::{Command, Refusal};
+use cm_handover::{ahead_stays_ahead, groups_may_follow, handed_groups_are_next};
 use std::marker::Model;
 use std::sync::Wait;
 
 /// The accepted cache with the end of the channel that sends. Whatever it accepted was sent.
-/// Contracts see both.
+/// Contracts describe both.
 #[derive(Drop)]
 pub struct Handing<K: Naming> {
     front: Front,
@@ -68,7 +68,7 @@ impl<K: Naming> Handing<K> {
         ensures marks { SameMarks self.old.front self.new.front }
     {
         ahead_stays_ahead();
-        groups_carry_on();
+        groups_may_follow();
         let (number, group) = match take_out(&mut self.front, command) {
             Ok(taken) => taken,
             Err(refusal) => return Err(refusal),
@@ -77,7 +77,7 @@ impl<K: Naming> Handing<K> {
         Ok(number)
     }
 
-    /// Learns that all commands up to the receipt's number are stored, unless that number wasn't
+    /// Learns that all commands up to the receipt's number are durable, unless that number wasn't
     /// sent yet: then nothing is changed.
     pub fn learn(&mut self, receipt: Receipt)
         ensures known { receipt.number ≤ self.old.front.sealed → self.new ≡ record {
@@ -106,7 +106,7 @@ impl<K: Naming> Handing<K> {
         self.front.invariant_holds();
     }
 
-    /// Takes note of what was seen on the Board: a failure, and what is stored.
+    /// Takes note of what was seen on the Board: a failure, and what is durable.
     pub fn notice(&mut self, seen: Seen)
         ensures sent { self.new.sent ≡ self.old.sent }
         ensures noticed { Notices self.old.front seen self.new.front }
@@ -139,7 +139,7 @@ impl<K: Naming> Handing<K> {
         self.front.invariant_holds();
     }
 
-    /// Sends the End, and gives up the cache. Waits while the channel is full.
+    /// Sends the End, and drops the accepted cache. Waits while the channel is full.
     pub fn finish<R: Wait>(self, rt: &R) -> Outgoing<K>
         ensures { result ≡ self.sent ++ End ∷ [] }
     {

@@ -1,11 +1,11 @@
-//! The last change that was accepted through a pass. Only contracts read it; it takes no memory.
+//! The last change that was accepted through a pass. Only contracts read it; it takes no room.
 
 ghost use Rattle.std.specs.Prelude.{◌≡◌, ℕ, List, Option, Some, None};
 ghost use Rattle.std.specs.Borrow.{ftrue};
 ghost use Rattle.cm_state.specs.Step.{Change};
-ghost use Rattle.cm_prepare.specs.Commands.{change_asked};
+ghost use Rattle.cm_commands.specs.Commands.{change_asked};
 
-use cm_prepare::Command;
+use cm_commands::Command;
 use std::marker::{Model, PhantomData};
 
 /// The last change that was accepted, with its number; none at first.
@@ -32,7 +32,7 @@ impl Last {
         }
     }
 
-    /// The change that the command asks for, with this number.
+    /// The change that the command requests, with this number.
     pub(crate) fn of(_command: &Command<'_>, _number: &u64) -> Last
         ensures { result.told ≡ Some (change_asked _command.now, _number.now) }
     {

@@ -23,7 +23,7 @@ pub struct NewCache {
 }
 
 impl NewCache {
-    /// For a cache of which all commands up to this number are stored.
+    /// The parts for a cache of which all commands up to this number are durable.
     pub fn new(alloc: Global, number: u64) -> Result<NewCache, AllocError>
         ensures { IfOk result (λ c. c.board.number ≡ number) }
     {

@@ -1,4 +1,4 @@
-//! What lies under the lock of a cache that runs, and the passes through which it is used.
+//! What lies under the lock of a running cache, and the passes through which it is used.
 
 ghost use Rattle.std.specs.Prelude.{◌≡◌, ◌+◌, ◌<◌, ◌≤◌, ◌↔◌, [], true, false, IsOk, IfOk, IfErr};
 ghost use Rattle.std.specs.Prelude.{OnOk, OnErr, IfSome, None, length};
@@ -6,9 +6,9 @@ ghost use Rattle.std.specs.Option.{option_map};
 ghost use Rattle.std.specs.Arc.{arc_value};
 ghost use Rattle.cm_group.specs.Groups.{IsRightRecord};
 ghost use Rattle.cm_state.specs.State.{words_show, state_of, class_in};
-ghost use Rattle.cm_prepare.specs.Commands.{change_asked};
+ghost use Rattle.cm_commands.specs.Commands.{change_asked};
 ghost use Rattle.cm_front.specs.Accepting.{IsReason};
-ghost use Rattle.cm_prepare.specs.declared.refusal.Refusal.TheVariants as refusal;
+ghost use Rattle.cm_commands.specs.declared.refusal.Refusal.TheVariants as refusal;
 ghost use Rattle.cm_cache.specs.Channel.{entries_of};
 ghost use Rattle.cm_cache.specs.Handing.{rows_sent, number_sent, HandsOver, Notices};
 ghost use Rattle.cm_cache.specs.Shared.{counted, most_passes};
@@ -20,8 +20,8 @@ use crate::handing::Handing;
 use crate::last::Last;
 use crate::naming::Naming;
 use crate::tally::Tally;
+use cm_commands::{Command, Refusal};
 use cm_front::Front;
-use cm_prepare::{Command, Refusal};
 use cm_record::Record;
 use std::alloc::{AllocError, Global};
 use std::marker::Model;
@@ -31,10 +31,11 @@ use std::sync::{Arc, Wait};
 /// How many passes a cache gives out.
 pub const MOST_PASSES: u64 = 65_536;
 
-/// The right to change a cache that runs. It counts the commands that were accepted through it, and
+/// The right to change a running cache. It counts the commands that were accepted through it, and
 /// keeps what calls with it saw on the Board.
 ///
-/// Contracts see these, and the last change that was accepted through it, with its number.
+/// Contracts describe it by these, and by the last change that was accepted through it, with its
+/// number.
 #[derive(Drop)]
 pub struct Pass<K: Naming> {
     share: Share<K>,
@@ -74,7 +75,7 @@ impl<K: Naming> Pass<K> {
         self.seen
     }
 
-    /// Whether a call with it was answered `Unsure`.
+    /// Whether a call with it returned `Unsure`.
     pub fn marked(&self) -> bool
         ensures value { result ≡ self.now.marked }
         ensures broken { result ≡ true → self.now.seen.broken ≡ true }
@@ -91,9 +92,8 @@ impl<K: Naming> Pass<K> {
         self.seen
     }
 
-    /// Waits until the command of this number is stored. `Unsure` if the device failed first:
-    /// then the pass is marked, and whether the command lives on is known once the file is opened
-    /// again.
+    /// Waits until the command of this number is durable. `Unsure` if the device failed first: then
+    /// the pass is marked, and whether the command survives is known once the file is opened again.
     pub fn wait_for<R: Wait>(
         &mut self,
         rt: &R,
@@ -115,7 +115,8 @@ impl<K: Naming> Pass<K> {
         Err(Refusal::Unsure(number))
     }
 
-    // Gives it up: its share of the book, how many commands that is, and its reader of the Board.
+    // Takes it apart: its share of the book, how many commands that is, and its reader of the
+    // Board.
     pub(crate) fn into_parts(self) -> (Share<K>, u64, Reader<K>)
         ensures share { (result.0.parts ≡ 1) × (result.0.amount ≡ self.share) }
         ensures count { result.1 ≡ self.share }
@@ -133,8 +134,8 @@ impl<K: Naming> Pass<K> {
 }
 
 /// What lies under the lock: the accepted cache, which sends what it accepts, and the book of what
-/// was accepted through all passes. Contracts see the cache, all that was sent, and how many passes
-/// were given out.
+/// was accepted through all passes. Contracts describe it by the cache, all that was sent, and how
+/// many passes were given out.
 #[derive(Drop)]
 pub struct Shared<K: Naming> {
     handing: Handing<K>,
@@ -187,7 +188,7 @@ impl<K: Naming> Shared<K> {
     }
 
     /// The record of the class of a name in the loader of a name, as accepted, whether or not it is
-    /// stored.
+    /// durable.
     pub fn find(
         &self,
         loader: &[u8],
@@ -238,7 +239,7 @@ impl<K: Naming> Shared<K> {
     }
 
     /// What a changing call does while it holds the lock: it learns what was seen on the Board,
-    /// accepts the command and sends it. A refused command is given up, and only what was seen
+    /// accepts the command and sends it. A refused command is dropped, and only what was seen
     /// stays. Waits while the channel is full.
     ///
     /// The refusals are those of `Front::accept`.
@@ -272,8 +273,8 @@ impl<K: Naming> Shared<K> {
         Ok(number)
     }
 
-    /// Sends the End, and gives up the cache. What stays is the channel's end, and the tally, for
-    /// the passes to come back. Waits while the channel is full.
+    /// Sends the End, and drops the accepted cache. What stays is the channel's end, and the tally,
+    /// to which the passes come back. Waits while the channel is full.
     pub(crate) fn finish<R: Wait>(self, rt: &R, opened: u64) -> (Outgoing<K>, Tally<K>)
         requires opened { opened ≡ K.base.number }
         ensures handed { result.1.handed ≡ length (entries_of result.0) }

@@ -1,8 +1,8 @@
-//! Storing one group by its device calls.
+//! Stores one group by its device calls.
 
 ghost use Rattle.std.specs.Prelude.{◌≡◌, ◌<◌, ◌≤◌, IfSome, IfNone};
-ghost use Rattle.cm_commit.specs.States.{CommitterState, Takes};
-ghost use Rattle.cm_cache.specs.Storing.{IsLeft, IsStored, IsUnderway};
+ghost use Rattle.cm_commit.specs.States.{CommitterState, TakesGroup};
+ghost use Rattle.cm_cache.specs.Storing.{IsLeftBroken, IsCommittedGroup, IsUnderway};
 ghost use Rattle.cm_group.specs.Groups.{Handed};
 
 use cm_commit::{Committer, Progress};
@@ -11,9 +11,10 @@ use cm_group::{Group, Receipt};
 
 /// Stores a group that may come next. `None` if the device failed: then the committer is broken.
 pub(crate) fn store_group<D: Disk>(committer: &mut Committer<D>, group: Group) -> Option<Receipt>
-    requires { Takes committer.old group }
-    ensures stored { IfSome result (λ r. IsStored committer.old group r.number committer.new) }
-    ensures left { IfNone result (IsLeft committer.old group committer.new) }
+    requires { TakesGroup committer.old group }
+    ensures stored { IfSome result
+        (λ r. IsCommittedGroup committer.old group r.number committer.new) }
+    ensures left { IfNone result (IsLeftBroken committer.old group committer.new) }
     ensures later { D.view.failures committer.old.disk ≤ D.view.failures committer.new.disk }
     ensures cause { IfNone result (D.view.failures committer.old.disk < D.view.failures
         committer.new.disk) }
@@ -29,9 +30,9 @@ fn make_calls<D: Disk>(committer: &mut Committer<D>) -> Option<Receipt>
     requires { (group : Handed) × IsUnderway committer.old group committer.old }
     ensures stored { IfSome result (λ r. (group : Handed)
         → IsUnderway committer.old group committer.old
-        → IsStored committer.old group r.number committer.new) }
+        → IsCommittedGroup committer.old group r.number committer.new) }
     ensures left { IfNone result ((group : Handed) → IsUnderway committer.old group committer.old
-        → IsLeft committer.old group committer.new) }
+        → IsLeftBroken committer.old group committer.new) }
     ensures later { D.view.failures committer.old.disk ≤ D.view.failures committer.new.disk }
     ensures cause { IfNone result (D.view.failures committer.old.disk < D.view.failures
         committer.new.disk) }

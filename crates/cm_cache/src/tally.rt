@@ -1,4 +1,4 @@
-//! Counting what was accepted, as the passes come back.
+//! Counts what was accepted, as the passes come back.
 
 ghost use Rattle.std.specs.Prelude.{◌≡◌, ◌+◌, ◌≤◌, true};
 ghost use Rattle.cm_cache.specs.Shared.{most_passes};
@@ -10,9 +10,9 @@ use crate::shared::Pass;
 use std::marker::Model;
 use std::sync::ledger::{Book, Share};
 
-/// The book of a cache that is closed, with the shares of the passes that came back. Contracts see
-/// how many commands were handed over, how many passes are missing, and how many commands were
-/// accepted through the others.
+/// The book of a cache that is closed, with the shares of the passes that came back. Contracts
+/// describe it by how many commands were handed over, how many passes are missing, and how many
+/// commands were accepted through the others.
 #[derive(Drop)]
 pub struct Tally<K: Naming> {
     book: Book<K>,
@@ -38,7 +38,7 @@ impl<K: Naming> Model for Tally<K> {
 }
 
 impl<K: Naming> Tally<K> {
-    /// With the book, and the share that no pass took.
+    /// The tally of this book, with the share that no pass took.
     pub(crate) fn new(book: Book<K>, rest: Share<K>, handed: u64, made: u64) -> Tally<K>
         requires handed { book.total ≡ handed }
         requires made { rest.parts + made ≡ most_passes }

@@ -9,10 +9,10 @@ use Rattle.cm_layout.specs.Rows.{rows_with}
 use Rattle.cm_verdict.specs.Laws.{FoundIsLive, FoundIsFramed, VerdictStands}
 use Rattle.cm_commit.specs.States.{CommitterState}
 use Rattle.cm_front.specs.Front.{FrontState, IsFront}
-use Rattle.cm_recover.specs.Opened.{Opens, IsOpened}
+use Rattle.cm_recover.specs.Opened.{Opens, OpensStanding}
 use Rattle.cm_recover.proofs.{opened}
-use Rattle.cm_machine.specs.Ahead.{IsAhead}
-use Rattle.cm_machine.specs.Handover.{OpenedIsAhead}
+use Rattle.cm_handover.specs.Ahead.{IsAhead}
+use Rattle.cm_handover.specs.Handover.{OpenedIsAhead}
 use Rattle.cm_cache.specs.declared.channel.Base.{Base}
 use Rattle.cm_cache.specs.Handing.{IsFresh}
 use Rattle.cm_cache.specs.Starting.{MayStart, base_of}
@@ -24,7 +24,7 @@ module _ {D : Type 0} (live : FoundIsLive) (framed : FoundIsFramed) (stands : Ve
   abbrev rows : List (Row (List ℕ))
   rows = rows_with lay o.standing.rows
 
-  file : IsOpened contents o.standing rows
+  file : OpensStanding contents o.standing rows
   file = opened live framed stands tells contents o.standing o.verdict_is
 
   same_rows : committer.rows ≡ rows

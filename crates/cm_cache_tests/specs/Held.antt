@@ -1,4 +1,4 @@
--- What the disk one sync of which is held shows: what the disk after it does.
+-- The view of a disk one sync of which is held: that of the disk below it.
 use Rattle.std.specs.Prelude.{ℕ}
 use Rattle.cm_disk.specs.Disk.{View}
 use Rattle.cm_disk.specs.Sim.{sim_contents, sim_unsynced, sim_failures, sim_moment, sim_left_since}

@@ -27,14 +27,14 @@ struct Adder<K: Naming> {
     pass: Pass<K>,
 }
 
-/// What came of it: the numbers that were answered, 0 if a loader was refused.
+/// The result: the numbers that were returned, 0 if a loader was refused.
 #[derive(Drop)]
 struct Added<K: Naming> {
     numbers: [u64; EACH],
     pass: Pass<K>,
 }
 
-/// What all threads gave back.
+/// What all threads returned.
 #[derive(Drop)]
 struct AllAdded<K: Naming> {
     numbers: Vec<u64>,

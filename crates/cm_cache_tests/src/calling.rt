@@ -1,4 +1,4 @@
-//! One thread's calls of a cache that runs, as tables of calls and answers.
+//! One thread's calls of a running cache, as tables of calls and results.
 
 ghost use Rattle.cm_disk.specs.Sim.{sim_failures};
 ghost use Rattle.cm_cache.specs.Starting.{Belongs, MayStart};
@@ -6,10 +6,10 @@ ghost use Rattle.cm_cache.specs.Starting.{Belongs, MayStart};
 use crate::holding::class;
 use crate::running::{Counts, formatted, opened, opened_to_fail};
 use cm_cache::{Cache, Naming, NewCache, Pass};
+use cm_commands::{Names, Refusal};
 use cm_commit::Committer;
 use cm_disk::SimDisk;
 use cm_front::Front;
-use cm_prepare::{Names, Refusal};
 use std::alloc::{AllocError, Global};
 use std::marker::Brand;
 use std::sync::Wait;
@@ -28,7 +28,7 @@ enum Call {
     Stop,
 }
 
-/// What comes of it.
+/// Its result.
 #[derive(Clone, Copy, Debug, PartialEq, Eq)]
 enum Answer {
     Number(u64),

@@ -6,10 +6,10 @@ ghost use Rattle.cm_cache.specs.Starting.{Belongs, MayStart};
 use crate::holding::class;
 use crate::running::{Counts, formatted, opened};
 use cm_cache::{Cache, Naming, NewCache, Pass};
+use cm_commands::{Command, Prepared, Refusal};
 use cm_commit::Committer;
 use cm_disk::{FuseDisk, SimDisk};
 use cm_front::Front;
-use cm_prepare::{Command, Prepared, Refusal};
 use cm_recover::{NotOpened, open};
 use std::alloc::{AllocError, Global};
 use std::marker::Brand;
@@ -35,14 +35,14 @@ struct Definer<K: Naming> {
     pass: Pass<K>,
 }
 
-/// What came of it.
+/// The result.
 #[derive(Drop)]
 struct Defined<K: Naming> {
     failed: Failed,
     pass: Pass<K>,
 }
 
-/// How many commands are unsure, and how many were refused since the device had failed before.
+/// How many commands are unsure, and how many were refused because the device had failed before.
 #[derive(Clone, Copy, Debug, PartialEq, Eq)]
 struct Failed {
     unsure: u64,
@@ -153,7 +153,7 @@ fn store_loader(front: &mut Front, committer: &mut Committer<SimDisk>) -> Option
     Some(committer.number())
 }
 
-/// A disk that holds a loader alone.
+/// A disk that holds only a loader.
 fn with_loader(alloc: Global) -> Result<SimDisk, Fail> {
     let (mut front, mut committer) = opened(alloc, formatted(alloc)?)?;
     let number = store_loader(&mut front, &mut committer);

@@ -43,7 +43,7 @@ impl Gate {
         self.held.load(Ordering::SeqCst) != 0
     }
 
-    /// Waits until the count reaches a number, for this many turns. Whether it did.
+    /// Waits until the count reaches a number, for at most this many turns. Returns whether it did.
     fn wait(&self, count: u64, turns: u64) -> bool {
         self.held.store(1, Ordering::SeqCst);
         for _ in 0..turns {

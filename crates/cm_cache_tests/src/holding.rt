@@ -1,4 +1,4 @@
-//! A sync that is held up holds up neither commands nor look-ups.
+//! While one sync is held up, commands and lookups aren't.
 
 ghost use Rattle.cm_cache.specs.Starting.{Belongs, MayStart};
 ghost use Rattle.cm_cache_tests.specs.Held.{held_failures};
@@ -6,9 +6,9 @@ ghost use Rattle.cm_cache_tests.specs.Held.{held_failures};
 use crate::held_disk::{Gate, HeldDisk, Hold};
 use crate::running::{Counts, formatted, opened};
 use cm_cache::{Cache, Naming, NewCache, Pass};
+use cm_commands::{Prepared, Refusal, prepare};
 use cm_commit::Committer;
 use cm_front::Front;
-use cm_prepare::{Prepared, Refusal, prepare};
 use std::alloc::{AllocError, Global};
 use std::marker::Brand;
 use std::sync::Wait;
@@ -16,13 +16,13 @@ use std::test::*;
 use std::thread;
 use std::thread::{Threads, yield_now};
 
-/// Class `A` with the name's letter left out: what stands before it, and after it.
+/// Class `A` without its name's letter: what precedes it, and what follows it.
 const BEFORE_NAME: &[u8] = b"\xca\xfe\xba\xbe\0\0\0\x34\0\x05\x07\0\x02\x01\0\x01";
 
 const BEHIND_NAME: &[u8] =
     b"\x07\0\x04\x01\0\x10java/lang/Object\0\x21\0\x01\0\x03\0\0\0\0\0\0\0\0";
 
-/// For how many turns anybody waits at most.
+/// For how many turns a thread waits at most.
 const TURNS: u64 = 20_000_000;
 
 /// The first sync of the group with the first class: after one to open the file, and two for the
@@ -44,7 +44,7 @@ enum Job<K: Naming> {
     Watch(Pass<K>),
 }
 
-/// What came of it.
+/// The result.
 #[derive(Drop)]
 struct Done<K: Naming> {
     went_well: bool,
@@ -138,7 +138,7 @@ fn jobs<K: Naming, R: Wait>(
     Ok(jobs)
 }
 
-/// The passes, and whether all threads did what they were to do.
+/// The passes, and whether all threads did their jobs.
 fn passes_of<K: Naming>(
     alloc: Global,
     all: Vec<Done<K>>,
@@ -172,7 +172,7 @@ where
     Ok(passes_of(alloc, all, first)?)
 }
 
-/// Counts, whether all threads did what they were to do, and how many syncs the disk made in all.
+/// Counts, whether all threads did their jobs, and how many syncs the disk made in all.
 fn run<K, R>(
     rt: &R,
     alloc: Global,

@@ -1,4 +1,4 @@
-//! Worked examples of `cm_cache`, through what it makes public.
+//! Worked examples of `cm_cache`, through its public functions.
 #![tactic(auto)]
 
 #[cfg(test)]
@@ -7,7 +7,7 @@ mod adding;
 mod calling;
 #[cfg(test)]
 mod fused;
-// Its definition stands in specs/, which are read with no test too.
+// Its definition is in specs/, which are also read without tests.
 pub mod held_disk;
 #[cfg(test)]
 mod holding;

@@ -8,7 +8,7 @@ use cm_cache::Closed;
 use cm_commit::Committer;
 use cm_disk::{Disk, SimDisk};
 use cm_front::Front;
-use cm_machine::opened_is_ahead;
+use cm_handover::opened_is_ahead;
 use cm_pool::Geometry;
 use cm_record::words_tell_name;
 use cm_recover::{NotOpened, format, open};

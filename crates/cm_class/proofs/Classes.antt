@@ -33,7 +33,7 @@ attributes_read : Reads (counted_at attribute_at) (counted attribute_bytes)
     (CountedFit AttributeFits)
 attributes_read = counted_reads attribute_at attribute_bytes AttributeFits attribute_reads
 
--- one number of two bytes, and what stands behind it
+-- one number of two bytes, and what is after it
 u2_then : {B : Type 0} (q : List ℕ → Result (B × List ℕ) Stop) (s : B → List ℕ) (F : B → Type 0)
     → Reads q s F → Reads (both_at (number_at 2) q) (λ x. u2 x.0 ++ s x.1) (λ x. IsU2 x.0 × F x.1)
 u2_then q s F two = reads_both (number_at 2) u2 IsU2 q s F u2_reads two

@@ -1,4 +1,4 @@
--- The readers of numbers, of rows of bytes and of fixed bytes.
+-- The readers of numbers, of lists of bytes and of fixed bytes.
 -- For `read_shape`, `read_whole`, `refusal` and others.
 use Rattle.std.proofs.Common.{Fits, w8, ◌≡◌, ℕ, zero, suc, ◌-◌, ◌^◌, ◌<◌, ◌≤◌, Bool, true, false}
 use Rattle.std.proofs.Common.{cond, ltb, List, [], ◌∷◌, ◌++◌, length, get_or, take, drop, replicate}
@@ -28,7 +28,7 @@ pub AreBytes-from_at : (bytes : List ℕ) → ((i : ℕ) → get_or bytes i 0 < 
 AreBytes-from_at [] at = tt
 AreBytes-from_at (b ∷ bytes) at = (at 0, AreBytes-from_at bytes (λ i. at (suc i)))
 
--- as a proof knows it of a slice of bytes
+-- as a proof knows this from a slice of bytes
 pub AreBytes-from_slice : (bytes : List ℕ) → ((i : ℕ) → Fits w8 (get_or bytes i 0)) → AreBytes bytes
 AreBytes-from_slice bytes h = AreBytes-from_at bytes (λ i. omega (arith, h i))
 
@@ -44,7 +44,7 @@ AreBytes-zeros : (n : ℕ) → AreBytes (replicate n 0)
 AreBytes-zeros zero = tt
 AreBytes-zeros (suc n) = (omega arith, AreBytes-zeros n)
 
--- ---- rows of bytes
+-- ---- lists of bytes
 
 says_bytes : (n : ℕ) (bytes : List ℕ) → AreBytes bytes → (b : Bool) → ltb (length bytes) n ≡ b
     → Says (λ v. v) (λ v. (length v ≡ n) × AreBytes v) bytes
@@ -112,7 +112,7 @@ AreBytes-high_first : (n v : ℕ) → AreBytes (bytes_high_first n v)
 AreBytes-high_first zero v = tt
 AreBytes-high_first (suc n) v = (byte-below n v, AreBytes-high_first n v)
 
--- a number of a row of bytes
+-- a number from a list of bytes
 number_is_made : (n : ℕ) (bytes : List ℕ) (b : Bool) → ltb (length bytes) n ≡ b
     → cond {A = Read ℕ} b (Err Short) (Ok (big_number n bytes, drop n bytes))
     ≡ (cond {A = Read (List ℕ)} b (Err Short) (Ok (take n bytes, drop n bytes)) >>= λ x.
@@ -124,7 +124,7 @@ number_is_made n bytes false e =
     (ap (big_number n) (sym (take-append-drop n bytes)) ∙ big_from-append n (take n bytes)
     (drop n bytes) enough)
 
--- a row of so many bytes is that of the number in it
+-- a list of n bytes is that of the number in it
 abbrev pub IsWidth : ℕ → Type 0
 IsWidth n = (bytes : List ℕ) → length bytes ≡ n → AreBytes bytes
     → bytes_high_first n (big_number n bytes) ≡ bytes
@@ -177,7 +177,7 @@ u1_reads = record {
   some_fits = omega arith;
 }
 
--- ---- a length, and a row of that length
+-- ---- a length, and a list of that length
 
 -- reads a length as a number of w bytes
 sized_reads : (w : ℕ) (s1 : ℕ → List ℕ) (F1 : ℕ → Type 0) → Reads (number_at w) s1 F1

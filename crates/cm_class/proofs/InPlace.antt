@@ -1,4 +1,4 @@
--- Items that are read one after another where they lie.
+-- Items that are read one after another in place.
 -- For `iter`, `len`, `next`.
 use Rattle.std.proofs.Common.{◌≡◌, ◌+◌, ◌-◌, ◌<◌, ℕ, zero, suc, List, [], ◌∷◌, length}
 use Rattle.std.proofs.Common.{None, Ok, Err, refl, sym, ap, subst, ◌∙◌, arith}
@@ -30,7 +30,7 @@ module _ {A : Type 0} (item : List ℕ → Read A) where
   none zero bytes e = refl
   none (suc n) bytes e = absurd (omega arith)
 
-  -- the first, and those behind it
+  -- the first item, and those after it
   pub first : (n m : ℕ) (bytes : List ℕ) (a : A) (after : List ℕ) → n ≡ m + 1
       → item bytes ≡ Ok (a, after) → Succeeds (many_at item n bytes)
       → items_of (many_at item n bytes) ≡ a ∷ items_of (many_at item m after)
@@ -41,7 +41,7 @@ module _ {A : Type 0} (item : List ℕ → Read A) where
       rw (same, parts) (items_with a (many_at item k after)
       (subst (λ (r : Read (List A)). Succeeds r) parts s))
 
-  -- those behind it are read too
+  -- the items after it are read too
   pub still : (n m : ℕ) (bytes : List ℕ) (a : A) (after : List ℕ) → n ≡ m + 1
       → item bytes ≡ Ok (a, after) → Succeeds (many_at item n bytes)
       → Succeeds (many_at item m after)

@@ -1,4 +1,4 @@
--- Reading items one after the other, as a loop does.
+-- Reading items one after another, as a loop does.
 -- For `skip_heading`.
 use Rattle.std.proofs.Common.{◌≡◌, Bool, true, false, ℕ, suc, ◌-◌, ◌+◌, ◌≤◌, ◌<◌, List, [], ◌∷◌}
 use Rattle.std.proofs.Common.{◌++◌, length, get_or, drop, Result, Ok, Err, refl, sym, ap, ◌∙◌}
@@ -13,7 +13,7 @@ use Rattle.cm_class.specs.Reading.{◌>>=◌, Fails, many_at, literal_at, expect
 use Rattle.cm_class.specs.Reading.{slots_at}
 use Rattle.cm_class.proofs.Readers.{Read}
 
--- what was read before, and what is still read
+-- what was read before, and what is still to be read
 abbrev pub with_front : {A : Type 0} → List A → Read (List A) → Read (List A)
 with_front front read = read >>= λ x. Ok (front ++ x.0, x.1)
 
@@ -22,7 +22,7 @@ pub regroup : {A : Type 0} (front : List A) (a : A) (read : Read (List A))
 regroup front a (Ok x) = ap (λ items. Ok (items, x.1)) (simp append_assoc)
 regroup front a (Err stop) = refl
 
--- a reading that fails is that failure
+-- if the first part fails, reading fails in the same way
 pub fails_first : {A B : Type 0} (stop : Stop) (read : Result A Stop) (then : A → Result B Stop)
     → Fails stop read → Fails stop (read >>= then)
 fails_first Short read then h = rw h refl
@@ -35,7 +35,7 @@ fails_equal Short x y e h = sym e ∙ h
 fails_equal (Bad left) x y e h = sym e ∙ h
 fails_equal NoMemory x y e h = tt
 
--- a stop that isn't a failed allocation is one in any case
+-- a stop that isn't a failed allocation is exactly the stop of reading
 pub fails_exactly : {A : Type 0} (stop : Stop) (read : Result A Stop) → read ≡ Err stop
     → Fails stop read
 fails_exactly Short read h = h

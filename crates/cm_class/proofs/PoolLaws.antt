@@ -56,7 +56,7 @@ tested n t others h = by_test (eqb n (tag_number t)) refl
     by_test true e = sym (eqb-true n (tag_number t) e)
     by_test false e = h
 
--- a tag tells the kind that has it
+-- a tag determines the kind that has it
 pub number_is : (n : ℕ) → IfSome (tag_of n) (λ t. tag_number t ≡ n)
 number_is n =
     tested n kinds.Utf8 _
@@ -77,7 +77,7 @@ number_is n =
 abbrev pub TagFits : ℕ → Kind → Type 0
 TagFits left t = (takes_two t && nat_lt left 2) ≡ false
 
--- two tags of one byte
+-- kinds with the same tag are the same
 one_tag : (t u : Kind) → tag_number t ≡ tag_number u → t ≡ u
 one_tag t u e =
     let same : Some t ≡ Some u = sym (number_again t) ∙ ap tag_of e ∙ number_again u in cc
@@ -211,7 +211,7 @@ of_kind (constant.InvokeDynamic v w) = (v, w, refl)
 abbrev FitsAs : Kind → ClassConstant → Type 0
 FitsAs t c = ConstantFits c × (kind_of c ≡ t)
 
--- the fields of such a constant
+-- the fields of a constant of this kind
 fields_of : (t : Kind) (c : ClassConstant) → kind_of c ≡ t → OfKind t c
 fields_of t c e = subst (λ (u : Kind). OfKind u c) e (of_kind c)
 
@@ -332,14 +332,14 @@ constant_reads left =
 
 -- ---- slots
 
--- so many slots that fit
+-- this many slots that fit
 abbrev SlotsAre : Bool → ℕ → List Slot → Type 0
 SlotsAre second left slots = SlotsFit second slots × (length slots ≡ left)
 
 no_slots : (slots : List Slot) → SlotsAre false 0 slots → [] ≡ slots
 no_slots slots fits = sym (nil_from_length slots fits.1)
 
--- a constant and the slots behind it
+-- a constant and the slots after it
 abbrev ConstantThen : ℕ → ClassConstant → List Slot → Type 0
 ConstantThen left c slots =
     (rest : List Slot) × (Usable c ∷ rest ≡ slots) × SlotsAre (is_wide c) left rest

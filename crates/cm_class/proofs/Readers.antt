@@ -1,5 +1,5 @@
--- What is known of a reader of one part: what it says of any bytes, and that a spelling with any
--- bytes behind it is read. And how readers that stand one behind another keep this.
+-- What is known of a reader of one part: what it says about any bytes, and that it reads a spelling
+-- whatever bytes follow. And how readers in sequence keep this.
 -- For `each_input_has_one_answer`, `many_members` and others.
 use Rattle.std.proofs.Common.{◌≡◌, ℕ, ◌+◌, List, [], ◌∷◌, ◌++◌, length, Result, Ok, Err, refl, sym}
 use Rattle.std.proofs.Common.{ap, subst, ◌∙◌, append_assoc}
@@ -9,7 +9,7 @@ use Rattle.cm_class.specs.Spelling.{AreBytes}
 use Rattle.std.proofs.lemmas.List.{append-nil}
 use Rattle.cm_class.specs.Reading.{◌>>=◌, both_at, made_at}
 
--- a value and the rest, or where reading stops
+-- a value and the bytes that are left, or where reading stops
 abbrev pub Read : Type 0 → Type 0
 Read A = Result (A × List ℕ) Stop
 
@@ -22,8 +22,8 @@ pub record CutShort {A : Type 0} (spelled : A → List ℕ) (Fits : A → Type 0
   pub more : List ℕ
   pub parts : spelled value ≡ bytes ++ next ∷ more
 
--- A spelling begins as the bytes do up to the last `left` of them, and none goes on with the next,
--- whatever stands behind it.
+-- A spelling begins with the bytes before the last `left` of them, and none continues with the next
+-- byte, whatever follows it.
 pub record Stuck {A : Type 0} (spelled : A → List ℕ) (Fits : A → Type 0) (bytes : List ℕ)
     (left : ℕ) : Type 0 where
   pub front : List ℕ
@@ -55,7 +55,7 @@ pub AreBytes-rest : (front rest : List ℕ) → AreBytes (front ++ rest) → Are
 AreBytes-rest [] rest h = h
 AreBytes-rest (b ∷ front) rest h = AreBytes-rest front rest h.1
 
--- what one reading gave twice
+-- the same reading gives the same value
 pub same_read : {A : Type 0} (x y : A × List ℕ) (read : Result (A × List ℕ) Stop) → read ≡ Ok x
     → read ≡ Ok y → x ≡ y
 same_read x y read e f = cc
@@ -68,8 +68,8 @@ pub record Parts {A C : Type 0} (s1 : A → List ℕ) (F1 : A → Type 0) (t : A
   pub rest_fits : T first c
   pub spelled : s c ≡ s1 first ++ t first c
 
--- A reader of a first part, and behind it a reader of the rest that depends on the first. T says
--- which wholes have which first part, and t how the rest of a whole is spelled.
+-- A reader of a first part, and after it a reader of the remaining part that depends on the first.
+-- T says which wholes have which first part, and t how the remaining part of a whole is spelled.
 module _ {A C : Type 0} (r : List ℕ → Result (A × List ℕ) Stop) (s1 : A → List ℕ) (F1 : A → Type 0)
     (k : A → List ℕ → Result (C × List ℕ) Stop) (t : A → C → List ℕ) (T : A → C → Type 0)
     (s : C → List ℕ) (F : C → Type 0)
@@ -84,7 +84,7 @@ module _ {A C : Type 0} (r : List ℕ → Result (A × List ℕ) Stop) (s1 : A �
       rw (regrouped, one.again p.first p.first_fits (t p.first c ++ rest))
       ((two p.first p.first_fits).again c p.rest_fits rest)
 
-  -- no whole goes on where the rest doesn't
+  -- if no second part continues with these bytes, no whole does
   both_stuck : (a : A) → F1 a → (front : List ℕ) (at : ℕ)
       → ((v : C) → T a v → (x y : List ℕ) → t a v ++ x ≡ front ++ at ∷ y → ⊥)
       → (c : C) → F c → (x y : List ℕ) → s c ++ x ≡ (s1 a ++ front) ++ at ∷ y → ⊥
@@ -102,7 +102,7 @@ module _ {A C : Type 0} (r : List ℕ → Result (A × List ℕ) Stop) (s1 : A �
       never c (subst (λ (b : A). T b c) firsts p.rest_fits) x y
       (subst (λ (b : A). t b c ++ x ≡ front ++ at ∷ y) firsts rests)
 
-  -- what is said of the whole, from what the second reader says of the rest
+  -- what holds for the whole, from what the second reader says about its part
   says_rest : (bytes : List ℕ) (a : A) (rest : List ℕ) → F1 a → bytes ≡ s1 a ++ rest
       → (w : Result (C × List ℕ) Stop) → Says (t a) (T a) rest w → Says s F bytes w
   says_rest bytes a rest fa e (Ok x) h =
@@ -140,7 +140,7 @@ module _ {A C : Type 0} (r : List ℕ → Result (A × List ℕ) Stop) (s1 : A �
       }
   says_rest bytes a rest fa e (Err NoMemory) h = h
 
-  -- what is said of the whole, from what the first reader says
+  -- what holds for the whole, from what the first reader says
   says_both : (bytes : List ℕ) → AreBytes bytes → (v : Result (A × List ℕ) Stop)
       → Says s1 F1 bytes v → Says s F bytes (v >>= λ x. k x.0 x.1)
   says_both bytes are (Ok x) h =
@@ -225,7 +225,7 @@ module _ {A C : Type 0} (r : List ℕ → Result (A × List ℕ) Stop) (s1 : A �
       (λ a c fa e.
       (subst F e (joins a fa).0, ap s (sym e) ∙ (joins a fa).1 ∙ sym (append-nil (s1 a))))
 
--- two parts, neither of which depends on the other
+-- two parts that don't depend on each other
 pub reads_both : {A B : Type 0} (r : List ℕ → Result (A × List ℕ) Stop) (s1 : A → List ℕ)
     (F1 : A → Type 0) (q : List ℕ → Result (B × List ℕ) Stop) (s2 : B → List ℕ) (F2 : B → Type 0)
     → Reads r s1 F1 → Reads q s2 F2
@@ -245,7 +245,7 @@ reads_both {A} {B} r s1 F1 q s2 F2 one two =
     })
     (λ a c fa fits. ((subst F1 (sym fits.0) fa, fits.1), ap (λ (y : A). s1 y ++ s2 c.1) fits.0))
 
--- the same reader, by an equal spelling and an equivalent condition
+-- the same reader, with an equal spelling and an equivalent condition
 pub reads_as : {A : Type 0} (r : List ℕ → Result (A × List ℕ) Stop) (s1 : A → List ℕ)
     (F1 : A → Type 0) (s : A → List ℕ) (F : A → Type 0)
     → Reads r s1 F1 → ((a : A) → F a → F1 a) → ((a : A) → F1 a → F a × (s a ≡ s1 a)) → Reads r s F

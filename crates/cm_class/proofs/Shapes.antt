@@ -1,4 +1,4 @@
--- From what the reader of a class file says to what is said of all the bytes.
+-- From what the reader of a class file says to what holds for all the bytes.
 -- For `each_input_has_one_answer`, `no_spelling_begins_another`, `one_class_for_one_spelling` and
 -- others.
 use Rattle.std.proofs.Common.{◌≡◌, ◌⊎◌, inl, inr, ⊎_elim, ℕ, zero, suc, ◌-◌, ◌+◌, ◌≤◌, ◌<◌, Bool}
@@ -13,7 +13,7 @@ use Rattle.cm_class.specs.declared.fault.ShapeFault.{ShapeFault}
 use Rattle.cm_class.specs.declared.fault.ShapeFault.TheVariants as faults
 use Rattle.cm_class.specs.Spelling.{spell, HasSpelling, AreBytes}
 use Rattle.cm_class.specs.Shape.{Spells, IsSpelling, IsProperBeginning, IsTruncated, IsTrailing}
-use Rattle.cm_class.specs.Shape.{BeginsSpelling, IsMalformed, IsAnswer, IsFault}
+use Rattle.cm_class.specs.Shape.{BeginsSpelling, IsMalformed, IsAnswer, IsShapeFault}
 use Rattle.cm_class.specs.Reading.{rest_of, class_at, answer_of, IsUnlessRefused}
 use Rattle.cm_class.proofs.Readers.{Read, Says, Stuck, same_read}
 use Rattle.cm_class.proofs.Classes.{class_reads}
@@ -21,7 +21,7 @@ use Rattle.cm_class.proofs.Lists.{positive}
 
 -- ---- one class for one spelling, and no spelling begins another
 
--- two spellings with anything behind them, where both make the same bytes
+-- two spellings with anything after them are the same, if both make the same bytes
 pub one_spelling : (c d : ClassFile) (x y : List ℕ) → HasSpelling c → HasSpelling d
     → spell c ++ x ≡ spell d ++ y → (c ≡ d) × (x ≡ y)
 one_spelling c d x y fc fd e =
@@ -32,14 +32,14 @@ one_spelling c d x y fc fd e =
 pub one_class : (c d : ClassFile) → HasSpelling c → HasSpelling d → spell c ≡ spell d → c ≡ d
 one_class c d fc fd e = (one_spelling c d [] [] fc fd (ap (λ (l : List ℕ). l ++ []) e)).0
 
--- a spelling with something behind it is no spelling
+-- a spelling with something after it is no spelling
 pub none_begins : (c d : ClassFile) → HasSpelling c → HasSpelling d
     → IsProperBeginning (spell c) (spell d) → ⊥
 none_begins c d fc fd b =
     let rests = (one_spelling d c [] b.0 fd fc (append-nil (spell d) ∙ b.2)).1 in
     omega (arith, ap length rests, b.1)
 
--- ---- what is said of bytes is said of them alone
+-- ---- no two answers hold for the same bytes
 
 -- a beginning of a beginning
 begins_on : (a b c : List ℕ) → IsProperBeginning a b → IsProperBeginning b c → IsProperBeginning a c
@@ -107,9 +107,9 @@ one_answer bytes (Err (faults.Malformed m)) (Err (faults.Malformed n)) p q =
 one_answer bytes (Err (faults.Malformed m)) (Err faults.NoMemory) p q = absurd q
 one_answer bytes (Err faults.NoMemory) b p q = absurd p
 
--- ---- the reader's answer is one
+-- ---- the reader's answer is unique
 
--- a beginning that goes past the front
+-- a beginning that is longer than the front
 take_over : (front : List ℕ) (at : ℕ) (rest : List ℕ) (n k : ℕ) → n ≡ length front + suc k
     → take n (front ++ at ∷ rest) ≡ front ++ at ∷ take k rest
 take_over [] at rest n k e = let here : n ≡ suc k = omega arith in rw here refl
@@ -131,7 +131,7 @@ no_longer bytes left h n within b at e =
     (h.at ∷ take k h.rest) b.2)))
     (λ up_to. omega (arith, up_to, total, h.left_is)) (cases_lt (length h.front) n)
 
--- bytes that are stuck are malformed, at the place where they are
+-- bytes on which reading is stuck are malformed, at the place where it is stuck
 stuck_malformed : (bytes : List ℕ) (left : ℕ) → Stuck spell HasSpelling bytes left
     → IsMalformed bytes (length bytes - left)
 stuck_malformed bytes left h =
@@ -196,7 +196,7 @@ read_fits bytes c rest are e =
     subst (Says spell HasSpelling bytes) e (class_reads.says bytes are) in
     h.0
 
--- what is left is no longer than all
+-- what is left is no longer than the whole
 rest_within : (bytes rest : List ℕ) (read : Read ClassFile) → Says spell HasSpelling bytes read
     → rest_of read ≡ Ok rest → length rest ≤ length bytes
 rest_within bytes rest (Ok x) h e =
@@ -225,7 +225,7 @@ left_fits bytes left are e = left_within bytes left (class_at bytes) (class_read
 
 module _ (bytes : List ℕ) (are : AreBytes bytes) (result : Result ClassFile ShapeFault)
     (given : IsUnlessRefused (answer_of bytes (class_at bytes)) result) where
-  -- what is answered is so, or an allocation failed of bytes that spell a class file
+  -- the result is correct, or an allocation failed for bytes that spell a class file
   answered : IsAnswer bytes result ⊎ ((result ≡ Err faults.NoMemory) × IsSpelling bytes)
   answered =
       ⊎_elim (λ e. inl (subst (IsAnswer bytes) (sym e) (is_answer bytes are)))
@@ -242,12 +242,12 @@ module _ (bytes : List ℕ) (are : AreBytes bytes) (result : Result ClassFile Sh
       ok_of (Ok c) h = h
       ok_of (Err fault) h = tt
 
-  pub fault_is : IfErr result (IsFault bytes)
+  pub fault_is : IfErr result (IsShapeFault bytes)
   fault_is = ⊎_elim (fault_of result)
-      (λ refused. subst (λ (r : Result ClassFile ShapeFault). IfErr r (IsFault bytes))
+      (λ refused. subst (λ (r : Result ClassFile ShapeFault). IfErr r (IsShapeFault bytes))
       (sym refused.0) refused.1) answered
     where
-      fault_of : (r : Result ClassFile ShapeFault) → IsAnswer bytes r → IfErr r (IsFault bytes)
+      fault_of : (r : Result ClassFile ShapeFault) → IsAnswer bytes r → IfErr r (IsShapeFault bytes)
       fault_of (Ok c) h = tt
       fault_of (Err faults.Truncated) h = h
       fault_of (Err (faults.Trailing at)) h = h

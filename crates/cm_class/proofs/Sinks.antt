@@ -1,4 +1,4 @@
--- Reading items one after the other into a sink, as a loop does.
+-- Reading items one after another into a sink, as a loop does.
 -- For `many_members`, `many_numbers`, `slots`.
 use Rattle.std.proofs.Common.{◌≡◌, Bool, true, false, ℕ, ◌-◌, ◌+◌, ◌≤◌, ◌<◌, List, [], ◌∷◌, ◌++◌}
 use Rattle.std.proofs.Common.{Ok, Err, sym, ap, ◌∙◌}
@@ -14,8 +14,8 @@ use Rattle.cm_class.proofs.Loops.{slots_end, slots_done, fails_exactly}
 use Rattle.cm_class.proofs.Walks.{walk_on, walk_stops, walk_done, walk_second, walk_usable}
 use Rattle.cm_class.proofs.Walks.{slots_stop, slots_walked}
 
--- all that is to be read is what a sink has and what is still to be read; of a sink that keeps
--- nothing only what is left behind it is said
+-- all that is to be read is what a sink has and what is still to be read; for a sink that keeps
+-- nothing only what is left afterwards is determined
 pub record IsSplit {A : Type 0} (keeps : Bool) (front : List A) (still all : Read (List A))
     : Type 0 where
   pub kept : keeps ≡ true → with_front front still ≡ all

@@ -1,4 +1,4 @@
--- Walking over items one after the other, as a loop does that keeps none of them.
+-- Walking over items one after another, as a loop does that keeps none of them.
 -- For `many_members`, `many_numbers`, `slots`.
 use Rattle.std.proofs.Common.{◌≡◌, Bool, true, false, ℕ, suc, ◌-◌, ◌+◌, ◌≤◌, ◌<◌, List, ◌∷◌, Result}
 use Rattle.std.proofs.Common.{Ok, Err, refl, sym, ◌∙◌, arith}
@@ -9,11 +9,11 @@ use Rattle.cm_class.specs.Spelling.{ClassConstant, is_wide}
 use Rattle.cm_class.specs.Reading.{◌>>=◌, rest_of, made_at, many_at, constant_at, slots_at}
 use Rattle.cm_class.proofs.Readers.{Read}
 
--- what is left, or where reading stops
+-- the bytes that are left, or where reading stops
 abbrev pub Rest : Type 0
 Rest = Result (List ℕ) Stop
 
--- what one reading and another behind it leave
+-- what one reading and another after it leave
 rest_first : {A B : Type 0} (read : Read A) (then : List ℕ → Read B) (make : A → B → B)
     → rest_of (read >>= λ x. then x.1 >>= λ y. Ok (make x.0 y.0, y.1))
     ≡ (rest_of read >>= λ bytes. rest_of (then bytes))
@@ -79,7 +79,7 @@ walk_second count i bytes total lt so_far =
     same_rest (Ok x) = refl
     same_rest (Err stop) = refl
 
--- what a constant and the slots behind it leave
+-- what a constant and the slots after it leave
 after_usable : (read : Read ClassConstant) (left : ℕ)
     → rest_of (read >>= λ c. slots_at (is_wide c.0) left c.1 >>= λ x. Ok (Usable c.0 ∷ x.0, x.1))
     ≡ (with_wide read >>= λ x. rest_of (slots_at x.0 left x.1))

@@ -1,6 +1,6 @@
 -- What an index of the constant pool names (JVMS SE 8, section 4.4). Index 0 and the second index
--- of a Long or a Double name nothing. Where an index names nothing of the kind that is asked for,
--- its bytes are none and its indexes 0.
+-- of a Long or a Double name nothing. If an index names nothing of the requested kind, its bytes
+-- are empty and its indexes 0.
 use Rattle.std.specs.Prelude.{ℕ, zero, suc, Bool, true, false, ◌&&◌, List, [], Option, Some, None}
 use Rattle.std.specs.Prelude.{option_and_then, slice_get, bytes_eq, ◌==◌, if◌then◌else◌}
 use Rattle.std.specs.Option.{option_map_or}
@@ -73,7 +73,7 @@ abbrev pub utf8_in : ClassConstant → List ℕ
 utf8_in (constant.Utf8 bytes) = bytes
 utf8_in _ = []
 
--- the bytes of a Utf8
+-- the bytes of the Utf8 that an index names
 abbrev pub utf8 : ClassFile → ℕ → List ℕ
 utf8 c i = option_map_or utf8_in (constant_named c i) []
 
@@ -95,7 +95,7 @@ class_name c i = utf8 c (option_map_or class_name_index (constant_named c i) 0)
 abbrev pub class_name_of : ClassFile → List ℕ
 class_name_of c = class_name c c.this_class
 
--- the name of its super class, where it has one
+-- the name of its super class, if it has one
 abbrev pub super_name_of : ClassFile → Option (List ℕ)
 super_name_of c = if c.super_class == 0 then None else Some (class_name c c.super_class)
 

@@ -1,6 +1,6 @@
--- Reading bytes from left to right, as a function of lists: the value and the rest, or where it
--- stops. What it has to do with spellings is proved above it, in `read_shape` and the laws of this
--- crate.
+-- Reading bytes from left to right, as a function of lists: the value and the bytes that are left,
+-- or where it stops. How reading relates to spellings is proved on top of it, in `read_shape` and
+-- the laws of this crate.
 use Rattle.std.specs.Prelude.{◌≡◌, ◌⊎◌, ℕ, zero, suc, ◌+◌, ◌-◌, Bool, true, false, List, [], ◌∷◌}
 use Rattle.std.specs.Prelude.{length, take, drop, Option, Some, None, Result, Ok, Err, nat_lt, ◌==◌}
 use Rattle.std.specs.Prelude.{◌&&◌, if◌then◌else◌}
@@ -34,18 +34,19 @@ abbrev pub Gives : {X Y : Type 0} → (X → Y) → Result X Stop → Result Y S
 Gives view (Ok x) read = read ≡ Ok (view x)
 Gives view (Err e) read = Fails e read
 
--- the same of a function that takes no memory, so that none is refused
+-- the same for a function that doesn't allocate, so that no allocation fails
 abbrev pub GivesExactly : {X Y : Type 0} → (X → Y) → Result X Stop → Result Y Stop → Type 0
 GivesExactly view (Ok x) read = read ≡ Ok (view x)
 GivesExactly view (Err e) read = read ≡ Err e
 
--- of what is read, the bytes that are left
+-- the bytes that are left after what is read
 abbrev pub rest_of : {A : Type 0} → Result (A × List ℕ) Stop → Result (List ℕ) Stop
 rest_of (Ok x) = Ok x.1
 rest_of (Err e) = Err e
 
--- the same of a function that reads into a sink: into one that keeps, unless an allocation failed;
--- of one that keeps nothing it is said exactly what is left, and nothing of the value
+-- the same for a function that reads into a sink: if the sink keeps items, the result is what
+-- reading gives, unless an allocation failed; if it keeps nothing, the result says exactly what is
+-- left, and nothing of the value
 pub record GivesTo {X Y : Type 0} (keeps : Bool) (view : X → Y × List ℕ) (result : Result X Stop)
     (read : Result (Y × List ℕ) Stop) : Type 0 where
   pub kept : keeps ≡ true → Gives view result read
@@ -53,7 +54,7 @@ pub record GivesTo {X Y : Type 0} (keeps : Bool) (view : X → Y × List ℕ) (r
 
 -- ---- putting readers together
 
--- one reader behind another
+-- one reader after another
 abbrev pub both_at : {A B : Type 0} → (List ℕ → Result (A × List ℕ) Stop)
     → (List ℕ → Result (B × List ℕ) Stop) → List ℕ → Result ((A × B) × List ℕ) Stop
 both_at one two bytes = do
@@ -61,7 +62,7 @@ both_at one two bytes = do
   b ← two a.1
   Ok ((a.0, b.0), b.1)
 
--- what is made of the value that was read
+-- a value made from the one that was read
 abbrev pub made_at : {A B : Type 0} → (A → B) → (List ℕ → Result (A × List ℕ) Stop) → List ℕ
     → Result (B × List ℕ) Stop
 made_at make one bytes = do
@@ -70,7 +71,7 @@ made_at make one bytes = do
 
 -- ---- numbers and bytes
 
--- a number of so many bytes
+-- a number of `n` bytes
 abbrev pub number_at : ℕ → List ℕ → Result (ℕ × List ℕ) Stop
 number_at n bytes =
     if nat_lt (length bytes) n then Err Short else Ok (big_number n bytes, drop n bytes)
@@ -79,7 +80,7 @@ abbrev pub byte_at : List ℕ → Result (ℕ × List ℕ) Stop
 byte_at [] = Err Short
 byte_at (b ∷ bytes) = Ok (b, bytes)
 
--- so many bytes
+-- `n` bytes
 abbrev pub bytes_at : ℕ → List ℕ → Result (List ℕ × List ℕ) Stop
 bytes_at n bytes = if nat_lt (length bytes) n then Err Short else Ok (take n bytes, drop n bytes)
 
@@ -103,7 +104,7 @@ count_at bytes = do
 
 -- ---- lists
 
--- so many items
+-- this many items
 unfoldable pub many_at : {A : Type 0} → (List ℕ → Result (A × List ℕ) Stop) → ℕ → List ℕ
     → Result (List A × List ℕ) Stop
 many_at item zero bytes = Ok ([], bytes)
@@ -121,7 +122,7 @@ counted_at item bytes = do
 
 -- ---- the constant pool
 
--- the kind that a tag tells (JVMS 4.4, table 4.4-A)
+-- the kind that has this tag (JVMS 4.4, table 4.4-A)
 abbrev pub tag_of : ℕ → Option Kind
 tag_of n =
     if n == 1 then Some kinds.Utf8
@@ -140,7 +141,7 @@ tag_of n =
     else if n == 18 then Some kinds.InvokeDynamic
     else None
 
--- the tag of a kind, which tells it
+-- the tag of a kind; no two kinds have the same
 abbrev pub tag_number : Kind → ℕ
 tag_number kinds.Utf8 = 1
 tag_number kinds.Integer = 3
@@ -163,7 +164,7 @@ takes_two kinds.Long = true
 takes_two kinds.Double = true
 takes_two _ = false
 
--- the tag of a constant that has so many slots left; a wide one takes two of them
+-- the tag of a constant for which `left` slots are left; a wide one takes two of them
 abbrev pub tag_found : ℕ → Option Kind → List ℕ → Result (Kind × List ℕ) Stop
 tag_found left None bytes = Err (Bad (length bytes + 1))
 tag_found left (Some t) bytes =
@@ -173,7 +174,7 @@ unfoldable pub tag_at : ℕ → List ℕ → Result (Kind × List ℕ) Stop
 tag_at left [] = Err Short
 tag_at left (b ∷ bytes) = tag_found left (tag_of b) bytes
 
--- a length of so many bytes, and bytes of that length
+-- a length in `n` bytes, and bytes of that length
 unfoldable pub sized_at : ℕ → List ℕ → Result (List ℕ × List ℕ) Stop
 sized_at n bytes = do
   size ← number_at n bytes
@@ -191,7 +192,7 @@ two_at make first bytes = made_at (λ x. make x.0 x.1) (both_at first (number_at
 unfoldable pub utf8_at : List ℕ → Result (ClassConstant × List ℕ) Stop
 utf8_at bytes = made_at constant.Utf8 (sized_at 2) bytes
 
--- the kinds that have a number behind their tag
+-- the kinds that have a number after their tag
 abbrev pub is_number : Kind → Bool
 is_number kinds.Integer = true
 is_number kinds.Float = true
@@ -199,14 +200,14 @@ is_number kinds.Long = true
 is_number kinds.Double = true
 is_number _ = false
 
--- those that name a field or a method
+-- the kinds that name a field or a method
 abbrev pub is_member : Kind → Bool
 is_member kinds.Fieldref = true
 is_member kinds.Methodref = true
 is_member kinds.InterfaceMethodref = true
 is_member _ = false
 
--- those that have other indexes of the pool there, one or two
+-- the kinds that have other indexes of the pool there, one or two
 abbrev pub has_indexes : Kind → Bool
 has_indexes kinds.Class = true
 has_indexes kinds.String = true
@@ -216,7 +217,7 @@ has_indexes kinds.MethodType = true
 has_indexes kinds.InvokeDynamic = true
 has_indexes _ = false
 
--- what stands behind a tag
+-- what is after a tag
 abbrev pub info_at : Kind → List ℕ → Result (ClassConstant × List ℕ) Stop
 info_at kinds.Utf8 bytes = utf8_at bytes
 info_at kinds.Integer bytes = one_at constant.Integer 4 bytes
@@ -238,7 +239,7 @@ constant_at left bytes = do
   tag ← tag_at left bytes
   info_at tag.0 tag.1
 
--- so many slots, the first of which may be the second of a wide constant
+-- this many slots, the first of which may be the second slot of a wide constant
 unfoldable pub slots_at : Bool → ℕ → List ℕ → Result (List Slot × List ℕ) Stop
 slots_at second zero bytes = Ok ([], bytes)
 slots_at true (suc left) bytes = do
@@ -255,7 +256,7 @@ unfoldable pub attribute_at : List ℕ → Result (Attribute × List ℕ) Stop
 attribute_at bytes =
     made_at (λ x. record { name = x.0; bytes = x.1 }) (both_at (number_at 2) (sized_at 4)) bytes
 
--- the items that are read, where they are; and that they are
+-- the items that are read, if reading succeeds; and that it succeeds
 abbrev pub items_of : {A : Type 0} → Result (List A × List ℕ) Stop → List A
 items_of (Ok x) = x.0
 items_of (Err e) = []
@@ -264,7 +265,7 @@ abbrev pub Succeeds : {A : Type 0} → Result A Stop → Type 0
 Succeeds (Ok x) = Unit {0}
 Succeeds (Err e) = ⊥
 
--- so many attributes, where they begin so
+-- this many attributes, if the bytes begin with them
 abbrev pub attributes_of : ℕ → List ℕ → List Attribute
 attributes_of n bytes = items_of (many_at attribute_at n bytes)
 
@@ -281,7 +282,7 @@ pool_at bytes = do
   count ← count_at start.1
   slots_at false (count.0 - 1) count.1
 
--- the numbers and lists behind the pool
+-- the numbers and lists after the pool
 abbrev pub Body : Type 0
 Body = ℕ × (ℕ × (ℕ × (List ℕ × (List Member × (List Member × List Attribute)))))
 
@@ -308,7 +309,7 @@ class_at bytes =
 
 -- ---- whole texts
 
--- what a reading of a class file says of all of the bytes
+-- what reading a class file from bytes says about all of them
 abbrev pub answer_of : List ℕ → Result (ClassFile × List ℕ) Stop → Result ClassFile ShapeFault
 answer_of bytes (Ok x) =
     if length x.1 == 0 then Ok x.0 else Err (faults.Trailing (length bytes - length x.1))
@@ -316,7 +317,7 @@ answer_of bytes (Err Short) = Err faults.Truncated
 answer_of bytes (Err (Bad left)) = Err (faults.Malformed (length bytes - left))
 answer_of bytes (Err NoMemory) = Err faults.NoMemory
 
--- it is this answer; or an allocation failed, where the answer is a class file
+-- the result is this answer; or an allocation failed, if the answer is a class file
 abbrev pub IsUnlessRefused : Result ClassFile ShapeFault → Result ClassFile ShapeFault → Type 0
 IsUnlessRefused answer result =
     (result ≡ answer) ⊎ ((result ≡ Err faults.NoMemory) × ((c : ClassFile) × (answer ≡ Ok c)))

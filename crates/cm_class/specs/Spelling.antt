@@ -1,5 +1,5 @@
 -- How a class file of version 52.0 is spelled in bytes (JVMS SE 8, sections 4.1 to 4.7). Numbers
--- are big-endian. A spelling is read beside the tables there, field by field.
+-- are big-endian. To be read beside the tables there, field by field.
 use Rattle.std.specs.Prelude.{ℕ, ◌+◌, ◌<◌, ◌^◌, Bool, true, false, List, [], ◌∷◌, ◌++◌, length}
 use Rattle.std.specs.List.{flat_map, AllByRecursion}
 use Rattle.std.specs.Int.{w16, w32, w64, to_be_bytes}
@@ -44,7 +44,7 @@ tag (constant.MethodHandle kind reference) = 15
 tag (constant.MethodType descriptor) = 16
 tag (constant.InvokeDynamic bootstrap_method name_and_type) = 18
 
--- what stands behind the tag (JVMS 4.4.1 to 4.4.10)
+-- what is after the tag (JVMS 4.4.1 to 4.4.10)
 abbrev pub info : ClassConstant → List ℕ
 info (constant.Utf8 bytes) = u2 (length bytes) ++ bytes
 info (constant.Integer bits) = u4 bits
@@ -136,8 +136,8 @@ ConstantFits (constant.MethodType descriptor) = IsU2 descriptor
 ConstantFits (constant.InvokeDynamic bootstrap_method name_and_type) =
     IsU2 bootstrap_method × IsU2 name_and_type
 
--- The slots from one on, where `second` says whether it is the second index of the constant before
--- it: exactly those indexes are unusable.
+-- The slots from one on; `second` says whether that is the second index of the constant before it.
+-- Exactly such indexes are unusable.
 abbrev pub SlotsFit : Bool → List Slot → Type 0
 SlotsFit true [] = ⊥
 SlotsFit true (Unusable ∷ slots) = SlotsFit false slots
@@ -146,7 +146,7 @@ SlotsFit false [] = Unit {0}
 SlotsFit false (Unusable ∷ slots) = ⊥
 SlotsFit false (Usable c ∷ slots) = ConstantFits c × SlotsFit (is_wide c) slots
 
--- a list that a count of two bytes can stand before, each item of which fits
+-- a list whose count fits into two bytes, and each item of which fits
 abbrev pub CountedFit : {A : Type 0} → (A → Type 0) → List A → Type 0
 CountedFit Fits items = IsU2 (length items) × AllByRecursion Fits items
 
@@ -161,7 +161,7 @@ pub record MemberFits (m : Member) : Type 0 where
   pub descriptor : IsU2 m.descriptor
   pub attributes : CountedFit AttributeFits m.attributes
 
--- the class files whose spelling says all that they hold
+-- the class files whose spelling determines them
 pub record HasSpelling (c : ClassFile) : Type 0 where
   pub count : IsU2 (length c.slots + 1)
   pub slots : SlotsFit false c.slots

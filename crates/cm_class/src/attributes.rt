@@ -1,4 +1,4 @@
-//! Attributes where they lie in a class file, and their reader.
+//! Attributes in place in a class file, and their reader.
 ghost use Rattle.std.specs.Prelude.{◌≡◌, ◌<◌, ◌^◌, length, slice_get};
 ghost use Rattle.std.specs.Iterator.{YieldsFirst, item_count};
 ghost use Rattle.cm_class.specs.Reading.{GivesExactly, many_at, counted_at, attribute_at, rest_of};
@@ -10,7 +10,7 @@ use crate::stop::Stop;
 use std::marker::Model;
 
 /// The attributes of a class, a field or a method, in the file's order, read one after another from
-/// the file's bytes; an iterator over them. Contracts see the list of those that are left.
+/// the file's bytes; an iterator over them. Contracts see the list of the attributes that are left.
 #[derive(Debug, Drop)]
 pub struct Attributes<'a> {
     count: u16,
@@ -41,7 +41,7 @@ fn attribute<'a>(bytes: &'a [u8]) -> Result<(Attribute<'a>, &'a [u8]), Stop>
     Ok((Attribute { name, bytes }, rest))
 }
 
-/// What follows so many attributes.
+/// The bytes that follow `count` attributes.
 fn skip_attributes(count: u16, bytes: &[u8]) -> Result<&[u8], Stop>
     ensures { GivesExactly (λ x. x.now) result (rest_of (many_at attribute_at count bytes.now)) }
 {
@@ -53,7 +53,7 @@ fn skip_attributes(count: u16, bytes: &[u8]) -> Result<&[u8], Stop>
     Ok(rest)
 }
 
-/// Attributes behind their count, and what follows them.
+/// Attributes preceded by their count, and what follows them.
 #[tactic(auto, unfolding(crate::specs::Reading::counted_at))]
 pub(crate) fn counted_attributes<'a>(bytes: &'a [u8]) -> Result<(Attributes<'a>, &'a [u8]), Stop>
     ensures { GivesExactly (λ x. (x.0, x.1.now)) result (counted_at attribute_at bytes.now) }
@@ -71,7 +71,7 @@ impl<'a> Attributes<'a> {
         usize::from(self.count)
     }
 
-    /// The same ones, to go over.
+    /// An iterator over the same attributes.
     pub fn iter(&self) -> Attributes<'a>
         ensures same { result ≡ self.now }
         ensures short { length result < 2 ^ 16 }
@@ -82,7 +82,7 @@ impl<'a> Attributes<'a> {
         }
     }
 
-    /// The one at a place. It reads those before it.
+    /// The attribute at a place. It reads those before it.
     pub fn get(&self, place: usize) -> Option<Attribute<'a>>
         ensures { result ≡ slice_get self.now place }
     {

@@ -2,7 +2,7 @@ ghost use Rattle.std.specs.Prelude.{◌≡◌};
 
 use std::marker::Model;
 
-/// Bytes of a class file, where they lie: those of a Utf8, or the content of an attribute.
+/// Bytes of a class file, borrowed in place: those of a Utf8, or the content of an attribute.
 /// Contracts see their list.
 #[derive(Debug, Drop)]
 pub struct Bytes<'a> {

@@ -43,11 +43,11 @@ impl<'a> Class<'a> {
         self.file.slots.as_slice()
     }
 
-    /// Does nothing: its clause says that a class file spells the class.
+    /// Does nothing: its clause says that the class has a spelling.
     pub fn invariant_holds(&self)
         ensures { HasSpelling self.now }
     {
-        let _read = self.file.flags; // the read of a field brings the invariant
+        let _read = self.file.flags; // reading a field provides the invariant
     }
 
     /// The access flags (JVMS 4.1).
@@ -65,7 +65,7 @@ impl<'a> Class<'a> {
         self.file.this_class
     }
 
-    /// Index of the super class in the pool; 0 where there is none.
+    /// Index of the super class in the pool; 0 if there is none.
     pub fn super_class(&self) -> u16
         ensures { result ≡ self.now.super_class }
     {

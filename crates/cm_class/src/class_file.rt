@@ -5,7 +5,7 @@ use crate::bytes::Bytes;
 use crate::constant::Slot;
 use crate::items::Items;
 
-/// An attribute (JVMS 4.7), its content where it lies in the file.
+/// An attribute (JVMS 4.7), its content borrowed from the file.
 #[derive(Debug, Drop)]
 pub struct Attribute<'a> {
     /// Index of its name in the pool.
@@ -43,15 +43,15 @@ impl<'a> Member<'a> {
     }
 }
 
-/// All that a class file of version 52.0 holds (JVMS 4.1), of any sizes: some have no spelling, as
-/// one of 65,536 fields.
+/// All that a class file of version 52.0 holds (JVMS 4.1), of any size: some have no spelling, such
+/// as one with 65,536 fields.
 #[derive(Debug, Drop)]
 pub struct ClassFile<'a> {
     /// The constant pool from index 1 on.
     pub slots: Items<Slot<'a>>,
     pub flags: u16,
     pub this_class: u16,
-    /// 0 where there is none.
+    /// 0 if there is none.
     pub super_class: u16,
     pub interfaces: Items<u16>,
     pub fields: Items<Member<'a>>,

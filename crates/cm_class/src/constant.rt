@@ -2,11 +2,11 @@ ghost use Rattle.std.specs.Prelude.{◌≡◌};
 
 use crate::bytes::Bytes;
 
-/// A constant of the pool (JVMS 4.4). Each index is one of the pool, from 1 on. `U` stands for the
-/// bytes of a Utf8: in a class it is the bytes, in a record their place.
+/// A constant of the pool (JVMS 4.4). Each index is an index of the pool, which counts from 1. `U`
+/// denotes the bytes of a Utf8: in a class the bytes themselves, in a record their place.
 #[derive(Clone, Copy, Debug, PartialEq, Eq, Drop)]
 pub enum Constant<U> {
-    /// Tag 1: bytes, whose form rules of their own judge.
+    /// Tag 1: bytes. Separate rules check their form.
     Utf8(U),
     /// Tag 3: the number's bits.
     Integer(u32),
@@ -44,7 +44,7 @@ pub enum Constant<U> {
         name: u16,
         descriptor: u16,
     },
-    /// Tag 15: the kind says what the reference names.
+    /// Tag 15: the kind says what the reference refers to.
     MethodHandle {
         kind: u8,
         reference: u16,
@@ -53,7 +53,8 @@ pub enum Constant<U> {
     MethodType {
         descriptor: u16,
     },
-    /// Tag 18: the first is an index of the bootstrap methods, from 0 on, and not of the pool.
+    /// Tag 18: the first is an index of the bootstrap methods, which count from 0, and not of the
+    /// pool.
     InvokeDynamic {
         bootstrap_method: u16,
         name_and_type: u16,
@@ -72,7 +73,7 @@ impl<U> Constant<U> {
     }
 }
 
-/// What stands at one index of the constant pool.
+/// What is at one index of the constant pool.
 #[derive(Debug, Drop)]
 pub enum Slot<'a> {
     /// A constant begins here.

@@ -1,6 +1,6 @@
 use thiserror::Error;
 
-/// Why bytes are no class file. Places count bytes from 0.
+/// Why bytes are no class file. Places are byte offsets from 0.
 #[derive(Clone, Copy, Debug, PartialEq, Eq, Error)]
 pub enum ShapeFault {
     /// The bytes are a proper beginning of a class file.

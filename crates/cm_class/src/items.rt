@@ -2,8 +2,8 @@ ghost use Rattle.std.specs.Prelude.{◌≡◌};
 
 use std::marker::Model;
 
-/// A list of values in order, as bytes or attributes. It is made from a `Vec` and gives it back,
-/// and neither takes memory.
+/// A list of values in order, such as bytes or attributes. Converting from and to a `Vec` doesn't
+/// allocate.
 #[derive(Debug, Drop)]
 pub struct Items<T> {
     values: Vec<T>,

@@ -23,7 +23,7 @@ impl Kind {
     ghost use Rattle.std.specs.Prelude.{◌≡◌, Some};
     ghost use Rattle.cm_class.specs.Reading.{tag_of, tag_number, takes_two};
 
-    /// The kind that a tag tells; none of a number that is no tag (JVMS 4.4, table 4.4-A).
+    /// The kind that has this tag; `None` if the number is no tag (JVMS 4.4, table 4.4-A).
     pub fn from_tag(tag: u16) -> Option<Kind>
         ensures { result ≡ tag_of tag }
     {

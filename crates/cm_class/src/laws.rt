@@ -1,4 +1,4 @@
-//! What holds of the definitions themselves. Each law is the contract of a function with an empty
+//! Properties of the definitions themselves. Each law is the contract of a function with an empty
 //! body.
 ghost use Rattle.std.specs.Prelude.{◌≡◌, List, ℕ, Result};
 ghost use Rattle.cm_class.specs.declared.class_file.ClassFile.{ClassFile};
@@ -12,12 +12,12 @@ pub fn no_spelling_begins_another()
         → IsProperBeginning (spell c) (spell d) → ⊥ }
 {}
 
-/// One spelling is that of one class file.
+/// A spelling belongs to one class file only.
 pub fn one_class_for_one_spelling()
     ensures { (c d : ClassFile) → HasSpelling c → HasSpelling d → spell c ≡ spell d → c ≡ d }
 {}
 
-/// Bytes spell a class file or have one of the three faults, and not two of these.
+/// Bytes spell a class file or have one of the three faults, and never two of these.
 pub fn each_input_has_one_answer()
     ensures some { (bytes : List ℕ) → AreBytes bytes
         → (answer : Result ClassFile ShapeFault) × IsAnswer bytes answer }

@@ -45,7 +45,7 @@ fn many_members<'a, S: Sink>(
     Ok((members, rest))
 }
 
-/// Fields or methods behind their count.
+/// Fields or methods, preceded by their count.
 #[tactic(auto, unfolding(crate::specs::Reading::counted_at))]
 pub(crate) fn members<'a, S: Sink>(
     sink: S,
@@ -72,7 +72,7 @@ fn many_numbers<S: Sink>(sink: S, count: u16, bytes: &[u8]) -> Result<(Vec<u16>,
     Ok((numbers, rest))
 }
 
-/// Interfaces behind their count.
+/// Interfaces, preceded by their count.
 #[tactic(auto, unfolding(crate::specs::Reading::counted_at))]
 pub(crate) fn interfaces<S: Sink>(sink: S, bytes: &[u8]) -> Result<(Items<u16>, &[u8]), Stop>
     ensures { GivesTo S.keeps (λ x. (x.0, x.1.now)) result (counted_at (number_at 2) bytes.now) }

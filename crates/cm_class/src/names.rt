@@ -49,8 +49,8 @@ impl<'a> Class<'a> {
     ghost use Rattle.cm_class.specs.Names.{class_name_index, class_name, name_index_at};
     ghost use Rattle.cm_class.specs.Names.{descriptor_index_at, pair_index, reference_name};
 
-    /// The constant that an index of the pool names; none at 0, behind a Long or a Double, and past
-    /// the pool (JVMS 4.4).
+    /// The constant that an index of the pool names; `None` at 0, after a Long or a Double, and
+    /// past the end of the pool (JVMS 4.4).
     pub fn constant(&self, index: u16) -> Option<&Constant<Bytes<'a>>>
         ensures { option_copied result ≡ constant_named self.now index }
     {
@@ -73,7 +73,7 @@ impl<'a> Class<'a> {
         }
     }
 
-    /// The bytes of the Utf8 that an index names; none where it names no Utf8.
+    /// The bytes of the Utf8 that an index names; empty if it names no Utf8.
     pub fn utf8(&self, index: u16) -> &[u8]
         ensures { result.now ≡ utf8 self.now index }
     {
@@ -90,7 +90,7 @@ impl<'a> Class<'a> {
         self.names(index, Kind::Utf8) && self.utf8(index) == bytes
     }
 
-    /// Index of a class's name; 0 where there is no class.
+    /// Index of a class's name; 0 if there is no class.
     fn class_name_index(&self, index: u16) -> u16
         ensures { result ≡ option_map_or class_name_index (constant_named self.now index) 0 }
     {
@@ -100,8 +100,8 @@ impl<'a> Class<'a> {
         }
     }
 
-    /// The name of the class that an index names: the bytes of the Utf8 that it leads to; none
-    /// where it leads to no Utf8 (JVMS 4.4.1).
+    /// The name of the class that an index names: the bytes of the Utf8 that it leads to; empty if
+    /// it leads to no Utf8 (JVMS 4.4.1).
     pub fn class_name(&self, index: u16) -> &[u8]
         ensures { result.now ≡ class_name self.now index }
     {
@@ -109,7 +109,7 @@ impl<'a> Class<'a> {
     }
 
     /// The indexes of the name and of the descriptor in the NameAndType that an index names; both 0
-    /// where it names none (JVMS 4.4.6).
+    /// if it names none (JVMS 4.4.6).
     pub fn name_and_type(&self, index: u16) -> (u16, u16)
         ensures name { result.0 ≡ name_index_at self.now index }
         ensures descriptor { result.1 ≡ descriptor_index_at self.now index }
@@ -120,7 +120,7 @@ impl<'a> Class<'a> {
         }
     }
 
-    /// Index of the NameAndType that a reference to a member names; 0 where there is none.
+    /// Index of the NameAndType that a reference to a member names; 0 if there is none.
     fn pair_index(&self, index: u16) -> u16
         ensures { result ≡ option_map_or pair_index (constant_named self.now index) 0 }
     {
@@ -134,8 +134,8 @@ impl<'a> Class<'a> {
         }
     }
 
-    /// The name of the field or method to which the reference at an index refers; no bytes where
-    /// there is none (JVMS 4.4.2).
+    /// The name of the field or method to which the reference at an index refers; empty if there is
+    /// none (JVMS 4.4.2).
     pub fn reference_name(&self, index: u16) -> &[u8]
         ensures { result.now ≡ reference_name self.now index }
     {

@@ -1,4 +1,4 @@
-//! Readers of numbers and of lists of bytes, big-endian. Each answers what it read and the bytes
+//! Readers of numbers and of lists of bytes, big-endian. Each returns what it read and the bytes
 //! that are left.
 ghost use Rattle.std.specs.Prelude.{◌≡◌, ◌<◌, ◌≤◌, ◌*◌, ℕ, length, IfOk};
 ghost use Rattle.cm_class.specs.Spelling.{heading};
@@ -47,8 +47,8 @@ pub(crate) fn read_u64(bytes: &[u8]) -> Result<(u64, &[u8]), Stop>
     Ok((BigEndian::read_u64(bytes), &bytes[8..]))
 }
 
-/// How many items to make room for, where a count is given and each item takes at least so many
-/// bytes: no more of them than the bytes can spell, so that a false count asks for no memory.
+/// How many items to make room for, given their count and how many bytes each item takes at least:
+/// no more items than the bytes can spell, so that a false count doesn't reserve memory.
 pub(crate) fn room_for(count: u16, least: usize, bytes: &[u8]) -> usize
     requires { 0 < least }
     ensures within { result ≤ count }
@@ -58,7 +58,7 @@ pub(crate) fn room_for(count: u16, least: usize, bytes: &[u8]) -> usize
     usize::from(count).min(bytes.len() / least)
 }
 
-/// So many bytes, and those behind them.
+/// The first `len` bytes, and those after them.
 fn front(len: usize, bytes: &[u8]) -> Result<(&[u8], &[u8]), Stop>
     ensures { GivesExactly (λ x. (x.0.now, x.1.now)) result (bytes_at len bytes.now) }
 {
@@ -68,7 +68,7 @@ fn front(len: usize, bytes: &[u8]) -> Result<(&[u8], &[u8]), Stop>
     Ok(bytes.split_at(len))
 }
 
-/// A Utf8: bytes behind their length in two bytes.
+/// A Utf8: bytes preceded by their length in two bytes.
 #[tactic(auto, unfolding(crate::specs::Reading::sized_at))]
 pub(crate) fn read_utf8(bytes: &[u8]) -> Result<(&[u8], &[u8]), Stop>
     ensures { GivesExactly (λ x. (x.0.now, x.1.now)) result (sized_at 2 bytes.now) }
@@ -77,7 +77,7 @@ pub(crate) fn read_utf8(bytes: &[u8]) -> Result<(&[u8], &[u8]), Stop>
     front(usize::from(len), rest)
 }
 
-/// Bytes behind their length in four bytes.
+/// Bytes preceded by their length in four bytes.
 #[tactic(auto, unfolding(crate::specs::Reading::sized_at))]
 pub(crate) fn content(bytes: &[u8]) -> Result<(&[u8], &[u8]), Stop>
     ensures { GivesExactly (λ x. (x.0.now, x.1.now)) result (sized_at 4 bytes.now) }

@@ -14,7 +14,7 @@ use crate::numbers::{
 use crate::sink::Sink;
 use crate::stop::Stop;
 
-/// The tag of a constant that has so many slots left. A wide one takes two of them.
+/// The tag of a constant for which `left` slots are left. A wide one takes two of them.
 #[tactic(auto, unfolding(crate::specs::Reading::tag_at))]
 fn tag(left: u16, bytes: &[u8]) -> Result<(Kind, &[u8]), Stop>
     ensures { GivesExactly (λ x. (x.0, x.1.now)) result (tag_at left bytes.now) }
@@ -38,7 +38,7 @@ fn two(bytes: &[u8]) -> Result<(u16, u16, &[u8]), Stop>
     Ok((first, second, rest))
 }
 
-/// A number behind its tag (JVMS 4.4.4, 4.4.5).
+/// The constant of a number, after its tag (JVMS 4.4.4, 4.4.5).
 #[tactic(auto, unfolding(crate::specs::Reading::one_at))]
 fn number<'a>(kind: Kind, bytes: &'a [u8]) -> Result<(Constant<Bytes<'a>>, &'a [u8]), Stop>
     requires { is_number kind ≡ true }
@@ -65,7 +65,7 @@ fn number<'a>(kind: Kind, bytes: &'a [u8]) -> Result<(Constant<Bytes<'a>>, &'a [
     }
 }
 
-/// What names a field, a method or an interface's method, behind its tag (JVMS 4.4.2).
+/// The constant that names a field, a method or an interface's method, after its tag (JVMS 4.4.2).
 #[tactic(auto, unfolding(crate::specs::Reading::two_at))]
 fn member<'a>(kind: Kind, bytes: &'a [u8]) -> Result<(Constant<Bytes<'a>>, &'a [u8]), Stop>
     requires { is_member kind ≡ true }
@@ -106,7 +106,7 @@ fn member<'a>(kind: Kind, bytes: &'a [u8]) -> Result<(Constant<Bytes<'a>>, &'a [
     }
 }
 
-/// The other indexes behind a tag (JVMS 4.4.1, 4.4.3, 4.4.6, 4.4.8 to 4.4.10).
+/// A constant of other indexes, after its tag (JVMS 4.4.1, 4.4.3, 4.4.6, 4.4.8 to 4.4.10).
 #[tactic(auto, unfolding(crate::specs::Reading::one_at, crate::specs::Reading::two_at))]
 fn indexes<'a>(kind: Kind, bytes: &'a [u8]) -> Result<(Constant<Bytes<'a>>, &'a [u8]), Stop>
     requires { has_indexes kind ≡ true }
@@ -148,7 +148,7 @@ fn indexes<'a>(kind: Kind, bytes: &'a [u8]) -> Result<(Constant<Bytes<'a>>, &'a 
     }
 }
 
-/// What stands behind a tag.
+/// A constant, after its tag.
 #[tactic(auto, unfolding(crate::specs::Reading::utf8_at))]
 fn info<'a>(kind: Kind, bytes: &'a [u8]) -> Result<(Constant<Bytes<'a>>, &'a [u8]), Stop>
     ensures { GivesExactly (λ x. (x.0, x.1.now)) result (info_at kind bytes.now) }
@@ -172,7 +172,7 @@ fn constant<'a>(left: u16, bytes: &'a [u8]) -> Result<(Constant<Bytes<'a>>, &'a 
     info(tag, rest)
 }
 
-/// So many slots, each constant and, behind a wide one, its unusable second index.
+/// `count` slots: each constant and, after a wide one, its unusable second index.
 fn slots<'a, S: Sink>(
     sink: S,
     count: u16,

@@ -2,7 +2,7 @@
 ghost use Rattle.std.specs.Prelude.{◌≡◌, ◌⊎◌, IfOk, IfErr, Result};
 ghost use Rattle.cm_class.specs.declared.class_file.ClassFile.{ClassFile};
 ghost use Rattle.cm_class.specs.declared.fault.ShapeFault.{ShapeFault};
-ghost use Rattle.cm_class.specs.Shape.{Spells, IsSpelling, IsFault, IsAnswer};
+ghost use Rattle.cm_class.specs.Shape.{Spells, IsSpelling, IsShapeFault, IsAnswer};
 ghost use Rattle.cm_class.specs.Reading.{GivesTo, GivesExactly, rest_of, class_at, answer_of};
 ghost use Rattle.cm_class.specs.Reading.{IsUnlessRefused};
 
@@ -42,7 +42,7 @@ fn class_file<'a, S: Sink>(sink: S, bytes: &'a [u8]) -> Result<(ClassFile<'a>, &
     Ok((file, rest))
 }
 
-/// What follows a class file, without keeping any of it.
+/// The bytes that follow a class file, of which nothing is kept.
 pub(crate) fn skip_class_file(alloc: Global, bytes: &[u8]) -> Result<&[u8], Stop>
     ensures { GivesExactly (λ x. x.now) result (rest_of (class_at bytes.now)) }
 {
@@ -50,8 +50,8 @@ pub(crate) fn skip_class_file(alloc: Global, bytes: &[u8]) -> Result<&[u8], Stop
     Ok(rest)
 }
 
-/// What refuses bytes of which reading a class file leaves this, or stops there. Where nothing is
-/// left they spell one, and an allocation failed.
+/// The fault of bytes, given what reading a class file from them leaves, or where it stops. If
+/// nothing is left, the bytes spell one, and an allocation failed.
 fn refusal(bytes: &[u8], left: Result<&[u8], Stop>) -> ShapeFault
     requires { GivesExactly (λ x. x.now) left (rest_of (class_at bytes.now)) }
     ensures { IsUnlessRefused (answer_of bytes.now (class_at bytes.now)) (Err result) }
@@ -65,14 +65,14 @@ fn refusal(bytes: &[u8], left: Result<&[u8], Stop>) -> ShapeFault
     }
 }
 
-/// The class file that the bytes spell, all of them.
+/// The class file that all of the bytes spell.
 fn read_whole<'a>(alloc: Global, bytes: &'a [u8]) -> Result<Class<'a>, ShapeFault>
     ensures { IsUnlessRefused (answer_of bytes.now (class_at bytes.now)) result }
 {
     match class_file(alloc, bytes) {
         Ok((file, [])) => Ok(Class::from_file(file)),
         Ok((_, rest)) => Err(refusal(bytes, Ok(rest))),
-        // The bytes may have a fault behind the place where an allocation failed.
+        // The bytes may have a fault after the place where an allocation failed.
         Err(Stop::NoMemory) => Err(refusal(bytes, skip_class_file(alloc, bytes))),
         Err(stop) => Err(refusal(bytes, Err(stop))),
     }
@@ -80,15 +80,16 @@ fn read_whole<'a>(alloc: Global, bytes: &'a [u8]) -> Result<Class<'a>, ShapeFaul
 
 /// Reads a class file of version 52.0 (JVMS 4.1) from all of the bytes, in one pass.
 ///
-/// It is refused exactly where the bytes are no spelling of a class file, with the one fault that
-/// they have; or with `NoMemory`, only where they are one and an allocation failed. It reserves
-/// memory only for bytes that are there, whatever the counts and lengths in the file say. Where
-/// an allocation failed, and only there, a second pass, which takes none, looks for a fault.
+/// Fails exactly if the bytes are no spelling of a class file, with the one fault that they have;
+/// or with `NoMemory`, only if they are one and an allocation failed. Reserves memory only for
+/// bytes that are there, whatever the counts and lengths in the file say. Only if an allocation
+/// failed, a second pass, which doesn't allocate, looks for a fault.
 pub fn read_shape<'a>(alloc: Global, bytes: &'a [u8]) -> Result<Class<'a>, ShapeFault>
     ensures ok { IfOk result (Spells bytes.now) }
-    ensures fault { IfErr result (IsFault bytes.now) }
+    ensures fault { IfErr result (IsShapeFault bytes.now) }
 
-    // What is so is answered, unless the bytes spell a class file and an allocation failed.
+    // The result is the correct answer, unless the bytes spell a class file and an allocation
+    // failed.
     ensures only { (answer : Result ClassFile ShapeFault) → IsAnswer bytes.now answer
         → (result ≡ answer) ⊎ ((result ≡ Err ShapeFault.NoMemory) × IsSpelling bytes.now) }
 {

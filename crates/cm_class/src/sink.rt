@@ -1,22 +1,22 @@
-//! What becomes of items that were read.
+//! Where the items that were read go.
 ghost use Rattle.std.specs.Prelude.{◌≡◌, ◌++◌, ◌∷◌, [], Bool, true, false, IfOk, IfErr};
 ghost use Rattle.cm_class.specs.declared.stop.Stop.TheVariants.{NoMemory};
 
 use crate::stop::Stop;
 use std::alloc::Global;
 
-/// Where a reader puts what it reads. One that keeps nothing leaves lists empty, and never answers
-/// that an allocation failed.
+/// Where a reader puts what it reads. A sink that keeps nothing leaves lists empty, and never
+/// reports a failed allocation.
 pub(crate) trait Sink: Copy {
     /// Whether what was read is kept.
     ghost keeps: { Bool };
 
-    /// A list with room for so many items.
+    /// A list with room for `room` items.
     fn room<T: Drop>(self, room: usize) -> Result<Vec<T>, Stop>
         ensures empty { IfOk result (λ list. list.items ≡ []) }
         ensures refused { IfErr result (λ stop. (stop ≡ NoMemory) × (keeps ≡ true)) };
 
-    /// Puts an item behind the others.
+    /// Appends an item to a list.
     fn push<T: Drop>(self, list: &mut Vec<T>, item: T) -> Result<(), Stop>
         ensures kept { keeps ≡ true
             → IfOk result (λ _. list.new.items ≡ list.old.items ++ item ∷ []) }
@@ -36,7 +36,7 @@ impl Sink for Global {
     }
 }
 
-/// Keeps nothing, and so takes no memory: empty lists take none.
+/// Keeps nothing, and so never allocates: empty lists take no memory.
 #[derive(Clone, Copy)]
 pub(crate) struct Nothing {
     pub(crate) alloc: Global,

@@ -3,12 +3,12 @@ ghost use Rattle.cm_class.specs.declared.stop.Stop.TheVariants.{NoMemory};
 
 use std::alloc::{AllocError, AllocFailed};
 
-/// Where a reader stopped.
+/// Why a reader stopped.
 #[derive(Clone, Copy, Debug, PartialEq, Eq)]
 pub(crate) enum Stop {
-    /// The bytes ended, and more of them could go on.
+    /// The bytes ended within a spelling that could continue.
     Short,
-    /// So many bytes were left, and with the first of them nothing goes on.
+    /// This many bytes were left, and no spelling continues with the first of them.
     Bad(usize),
     /// An allocation failed.
     NoMemory,

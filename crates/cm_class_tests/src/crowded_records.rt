@@ -1,4 +1,4 @@
-//! Members and code of records whose indexes cost much to look at, so that they are found by marks.
+//! Members and code of records whose indexes cost much to compare, so that they are found by marks.
 use crate::member_samples::{Indexes, class_bytes};
 use crate::record_samples::record_of;
 use cm_class::Constant;
@@ -8,7 +8,7 @@ use std::test::Fail;
 
 const MEMBERS: [Indexes; 5] = [(1, 2), (1, 3), (1, 4), (1, 5), (1, 6)];
 
-// Fields and methods of one name, each with another descriptor but for the last one.
+// Fields and methods of one name, each with a different descriptor except the last one.
 fn overloads(alloc: Global, name: &[u8]) -> Result<Record, Fail> {
     let utf8s: [&[u8]; 6] = [name, b"()B", b"()C", b"()D", b"()F", b"()B"];
     record_of(alloc, &class_bytes(alloc, &utf8s, &MEMBERS, &MEMBERS)?)
@@ -45,7 +45,7 @@ fn has_none(record: &Record, name: &[u8]) -> bool {
     indexes(record, name, b"()B") == [None; 2]
 }
 
-// Two comparisons of the name are more words than the record has.
+// Two comparisons of the name read more words than the record has.
 #[test]
 fn members_of_one_long_name_are_found(rt: HostRuntime) -> Result<(), Fail> {
     let mut name = Vec::from_elem(rt.alloc(), b'n', 4_000)?;
@@ -72,7 +72,7 @@ fn put_attribute(bytes: &mut Vec<u8>, name: u16, content: &[u8]) -> Result<(), F
 // Max stack 1, max locals 2, no code, no handlers, no attributes.
 const BODY: [u8; 12] = [0, 1, 0, 2, 0, 0, 0, 0, 0, 0, 0, 0];
 
-// A method `Junk` of `()V` with three attributes: `Junk`, one whose name stands at this index, and
+// A method `Junk` of `()V` with three attributes: `Junk`, one whose name is at this index, and
 // `Code`.
 fn put_method(bytes: &mut Vec<u8>, second_name: u16) -> Result<(), Fail> {
     for number in [1, 0, JUNK, JUNK + 2, 3] {
@@ -83,8 +83,8 @@ fn put_method(bytes: &mut Vec<u8>, second_name: u16) -> Result<(), Fail> {
     put_attribute(bytes, JUNK + 1, &BODY)
 }
 
-// A heading, and a pool: in front of the Utf8s Longs of value 5, as the word of a Long is, but for
-// the last one, which has these bits.
+// A heading, and a pool: before the Utf8s it has Longs whose bits are 5, like the directory word of
+// a Long, except the last one, which has these bits.
 fn put_pool(bytes: &mut Vec<u8>, last: u64) -> Result<(), AllocError> {
     bytes.extend_from_slice(&[0xca, 0xfe, 0xba, 0xbe, 0, 0, 0, 0x34])?;
     bytes.extend_from_slice(&u16::to_be_bytes(JUNK + 3))?;
@@ -141,7 +141,7 @@ fn word_of_code(record: &Record) -> Result<u64, Fail> {
     Ok(1 + (u64::from(place.len) << 16) + (u64::from(place.at / 8) << 32))
 }
 
-// The second slot of the last Long has the word of `Code`, and is none.
+// The second slot of the last Long has the word of `Code`, but is no constant.
 #[test]
 fn a_second_slot_leads_to_no_name(rt: HostRuntime) -> Result<(), Fail> {
     let word = word_of_code(&behind_longs(rt.alloc(), 5, JUNK)?)?;

@@ -28,8 +28,8 @@ fn find_duplicate(
     find_duplicate_in(alloc, &class)
 }
 
-/// That such a place is found among such members: the same for fields and for methods, and none
-/// among the others.
+/// Checks that such a place is found among such members: the same for fields and for methods, and
+/// none among the others.
 fn is_first(
     rt: &(impl Abort + AllocGlobal),
     utf8s: &[&[u8]],
@@ -76,8 +76,8 @@ fn few_members(rt: HostRuntime) -> Result<(), Fail> {
     Ok(())
 }
 
-/// That none of 64 members is a duplicate, and the first that comes after them is one, with and
-/// without those after it.
+/// Checks that none of 64 members is a duplicate, and that the first one added after them is one,
+/// with and without those after it.
 fn are_told_apart(
     rt: &(impl Abort + AllocGlobal),
     utf8s: &[&[u8]],
@@ -102,7 +102,7 @@ fn many_members(rt: HostRuntime) -> Result<(), Fail> {
     are_told_apart(&rt, &utf8s, &mut members, &[(17, 10), (1, 9)])
 }
 
-/// Names that one quick fingerprint stands for, descriptors, and the third name again.
+/// Names with the same quick fingerprint, descriptors, and the third name again.
 static MEETING: [&[u8]; 17] = [
     b"aaaaaaaaaaaaaa10oO\x0f$\x14NN]_______a",
     b"aaaaaaaaaaaaaa10oO\x0f$\x14NN]_______b",
@@ -123,7 +123,7 @@ static MEETING: [&[u8]; 17] = [
     b"aaaaaaaaaaaaaa10oO\x0f$\x14NN]_______c",
 ];
 
-/// What the crate takes for a quick fingerprint.
+/// What the crate uses as a quick fingerprint.
 fn fingerprint(bytes: &[u8]) -> u64 {
     let mut hasher = FoldHasher::default();
     hasher.write(bytes);
@@ -137,7 +137,7 @@ fn names_meet(rt: HostRuntime) {
     }
 }
 
-/// Names of one fingerprint differ, and are told apart.
+/// Names with the same fingerprint differ, and are distinguished.
 #[test]
 fn members_that_meet(rt: HostRuntime) -> Result<(), Fail> {
     let mut members = pairs(rt.alloc())?;

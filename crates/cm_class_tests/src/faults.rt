@@ -1,10 +1,10 @@
-//! Bytes that are no class file, and which fault they have.
+//! Bytes that are no class file, and their faults.
 use crate::samples::{CLASS_A, EACH_KIND, join_parts, with_byte};
 use cm_class::{ShapeFault, read_shape};
 use std::alloc::{AllocError, Global};
 use std::test::Fail;
 
-/// Bytes of class A, what stands in their place, and the first byte with which no class continues.
+/// A place in class A, the byte put there, and the first byte with which no class continues.
 const WRONG: [(usize, u8, usize); 11] = [
     (0, 0xcb, 0),
     (3, 0xbf, 3),
@@ -46,7 +46,7 @@ fn fault_with(
     Ok(fault(alloc, &bytes))
 }
 
-/// Whether bytes after a class begin what is trailing, at this place.
+/// Whether bytes after a class are reported as trailing, at this place.
 fn are_trailing(alloc: Global, bytes: &[u8], behind: &[u8], at: usize) -> Result<bool, AllocError> {
     Ok(fault_with(alloc, bytes, behind)? == Some(ShapeFault::Trailing(at)))
 }
@@ -69,7 +69,7 @@ fn the_first_wrong_byte(rt: HostRuntime) {
     }
 }
 
-/// A Long or a Double at the last index is wrong at its tag, wherever the bytes end after it.
+/// A Long or a Double at the last index is wrong at its tag, wherever the bytes after it end.
 #[test]
 fn no_second_slot(rt: HostRuntime) {
     let alloc = rt.alloc();
@@ -82,7 +82,7 @@ fn no_second_slot(rt: HostRuntime) {
     }
 }
 
-/// A length of 4,294,967,295 asks for no memory.
+/// A length of 4,294,967,295 causes no allocation.
 #[test]
 fn a_false_length(rt: HostRuntime) -> Result<(), AllocError> {
     let behind = [0, 1, 0, 2, 0xff, 0xff, 0xff, 0xff];
@@ -95,9 +95,8 @@ fn flags_of_class_a(alloc: Global) -> Result<u16, ShapeFault> {
     Ok(read_shape(alloc, &CLASS_A)?.flags())
 }
 
-/// A fault is answered though an allocation failed to what stands before it, and a class is asked
-/// for again: so under `rt try --test --fail-alloc`, whichever allocation of these reads is
-/// refused.
+/// A fault is reported although an allocation failed for what comes before it, and a class is read
+/// again: this holds under `rt try --test --fail-alloc`, whichever allocation of these reads fails.
 #[test]
 fn a_fault_behind_a_refusal(rt: HostRuntime) -> Result<(), Fail> {
     let alloc = rt.alloc();

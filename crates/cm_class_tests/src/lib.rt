@@ -1,4 +1,4 @@
-//! Tests of class files: reading, names, duplicates, records, and replies that tell of them.
+//! Tests of class files: reading, names, duplicates, records, and replies about them.
 #![tactic(auto)]
 
 #[cfg(test)]

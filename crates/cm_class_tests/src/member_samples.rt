@@ -19,7 +19,7 @@ fn put_utf8(bytes: &mut Vec<u8>, utf8: &[u8]) -> Result<(), Fail> {
     Ok(bytes.extend_from_slice(utf8)?)
 }
 
-/// The count of a pool, which is one more than that of its constants, and these Utf8s.
+/// The count of a pool, which is one more than that of its constants, followed by these Utf8s.
 fn put_pool(bytes: &mut Vec<u8>, utf8s: &[&[u8]]) -> Result<(), Fail> {
     put_count(bytes, utf8s.len().saturating_add(1))?;
     for utf8 in utf8s {

@@ -1,11 +1,11 @@
-//! Which bytes are a Utf8, a name or a descriptor, one by one and all at once.
+//! Which bytes are a Utf8, a name or a descriptor, checked one by one and all at once.
 
-use cm_names::{
+use cm_descriptors::{
     Judgement, begins_with, ends_in_void, first, has_utf8_form, is_class_name, is_field_descriptor,
     is_method_name, is_unqualified_name, judge, method_units,
 };
 
-/// Bytes, and whether they are a text's.
+/// Bytes, and whether they have the form of a Utf8.
 static FORMS: [(&[u8], bool); 12] = [
     (b"", true),
     (b"\x01\x7f", true),
@@ -75,7 +75,7 @@ fn field_descriptors(rt: HostRuntime) {
     }
 }
 
-/// Bytes, and the units of what they take, if they are a method's descriptor.
+/// Bytes, and the units of the parameters, if they are a method's descriptor.
 static METHODS: [(&[u8], Option<u8>); 10] = [
     (b"()V", Some(0)),
     (b"(I)I", Some(1)),
@@ -99,7 +99,7 @@ fn method_descriptors(rt: HostRuntime) {
     assert_eq!(rt; first(b"ab"), Some((b'a', b"b".as_slice())));
 }
 
-/// What is judged of characters that are nothing of all that.
+/// The judgement of characters that are none of these.
 const NOTHING: Judgement = Judgement {
     utf8: true,
     class_name: false,
@@ -143,7 +143,7 @@ const THREE_UNITS: Judgement = Judgement {
     ..NOTHING
 };
 
-/// Bytes that are characters, and what is judged of them.
+/// Bytes that are characters, and their judgement.
 static JUDGED: [(&[u8], Judgement); 62] = [
     (b"", NOTHING),
     (b"a", NAME),
@@ -228,7 +228,7 @@ fn judgements(rt: HostRuntime) {
     }
 }
 
-/// Bytes that are no characters, and what is judged of them but for that.
+/// Bytes that are no characters, and their judgement apart from that.
 static JUDGED_NO_CHARACTERS: [(&[u8], Judgement); 9] = [
     (b"\x00", NAME),
     (b"twelve bytes and a \x00", NAME),

@@ -3,7 +3,7 @@ use crate::record_samples::{RECORD_A, with_word};
 use cm_record::{Record, RecordFault};
 use std::alloc::Global;
 
-// The place of a word, and what stands there: a number of words, a section's place, slot 0, a tag,
+// A place in a record, and the word put there: a number of words, a section's place, slot 0, a tag,
 // a run's place, an unused half word, bytes after the end of a run.
 const WRONG: [(usize, u64); 10] = [
     (0, 0x11),

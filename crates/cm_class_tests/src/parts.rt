@@ -4,11 +4,11 @@ use cm_class::{Attributes, Class, Constant, Member, Slot, read_shape};
 use std::process::Abort;
 use std::test::Fail;
 
-/// A constant's tag, and its numbers in the file's order, where 0 stands for one that it doesn't
-/// have. Of a Utf8 the tag alone.
+/// A constant's tag, and its numbers in the file's order; 0 for one that it doesn't have. For a
+/// Utf8 only the tag.
 type Numbers = (u8, u64, u16);
 
-/// Nothing if the slot can't be used.
+/// `None` if the slot can't be used.
 fn numbers(slot: &Slot) -> Option<Numbers> {
     let Slot::Usable(constant) = slot else {
         return None;
@@ -53,7 +53,7 @@ fn has_slots(class: &Class, expected: &[Option<Numbers>]) -> bool {
     class.slots().len() == expected.len()
 }
 
-/// Whether the slots of a class have these texts, if a slot that holds no Utf8 has none.
+/// Whether the slots of a class have these texts; a slot without a Utf8 has an empty one.
 fn has_texts(class: &Class, expected: &[&[u8]]) -> bool {
     for (slot, expected) in class.slots().iter().zip(expected) {
         let text = match slot {
@@ -121,7 +121,7 @@ fn each_kind_of_constant(rt: HostRuntime) -> Result<(), Fail> {
     Ok(())
 }
 
-/// Whether there is one attribute, with this name and these bytes.
+/// Whether there is exactly one attribute, with this name and these bytes.
 fn is_one_attribute(attributes: &Attributes, name: u16, bytes: &[u8]) -> bool {
     let mut rest = attributes.iter();
     match rest.next() {
@@ -130,7 +130,8 @@ fn is_one_attribute(attributes: &Attributes, name: u16, bytes: &[u8]) -> bool {
     }
 }
 
-/// The one member, if there is one, of these flags and these indexes of its name and descriptor.
+/// The only member, if there is exactly one, with these flags and these indexes of its name and
+/// descriptor.
 fn one_member<'m, 'a>(members: &'m [Member<'a>], expected: [u16; 3]) -> Option<&'m Member<'a>> {
     let (first, others) = members.split_first()?;
     let numbers = [first.flags, first.name, first.descriptor];

@@ -1,12 +1,12 @@
-//! Classes that are prepared, and bytes that aren't.
+//! Classes that are prepared, and bytes that can't be.
 
 use crate::samples::{CLASS_A, join_parts, with_attribute};
-use cm_prepare::{BadClass, Prepared, Refusal, prepare};
+use cm_commands::{BadClass, Prepared, Refusal, prepare};
 use cm_rules::{Broken, Rule, Spot};
 use std::alloc::{AllocError, Global};
 use std::test::Fail;
 
-// Asked once more if an allocation failed: nothing is changed then.
+// Tries again if an allocation failed: nothing is changed then.
 fn prepare_bytes(alloc: Global, bytes: &[u8]) -> Result<Prepared, Refusal> {
     match prepare(alloc, bytes) {
         Err(Refusal::NoMemory) => prepare(alloc, bytes),
@@ -41,13 +41,13 @@ fn a_class_is_shared(rt: HostRuntime) -> Result<(), Fail> {
     Ok(())
 }
 
-/// Whether the bytes of these parts are refused as such a class.
+/// Whether the bytes of these parts are rejected as such a class.
 fn is_refused(alloc: Global, parts: &[&[u8]], expected: BadClass) -> Result<bool, AllocError> {
     let bytes = join_parts(alloc, parts)?;
     Ok(prepare_bytes(alloc, &bytes).err() == Some(Refusal::BadClass(expected)))
 }
 
-/// What class A begins with here, what stands after it, and why it is no class: a byte more; other
+/// What class A begins with here, what comes after it, and why it is no class: one byte more; other
 /// versions; half a heading.
 static NO_CLASS: [(&[u8], &[u8], BadClass); 4] = [
     (
@@ -85,7 +85,7 @@ fn a_class_that_breaks_a_rule_is_refused(rt: HostRuntime) -> Result<(), Fail> {
         rule: Rule::EntryKinds,
         spot: Spot::This,
     };
-    // A Long as the fifth constant, and this class at its second index.
+    // A Long as the fifth constant, and this_class at its second index.
     let parts: [&[u8]; 5] = [
         &CLASS_A[..9],
         &[7],
@@ -102,7 +102,8 @@ fn words_of(alloc: Global, bytes: &[u8]) -> Result<u32, Refusal> {
     Ok(prepare_bytes(alloc, bytes)?.words())
 }
 
-/// Whether a class that has an attribute of this many bytes has this many words, or this refusal.
+/// Whether a class that has an attribute of this many bytes has this many words, or is refused for
+/// this reason.
 fn has_words(
     alloc: Global,
     count: u32,

@@ -1,4 +1,4 @@
-//! The words of records, beside their description.
+//! The words of records, compared with their description.
 use crate::record_samples::{
     ALL_TAGS, RECORD_A, RECORD_ALL_TAGS, bytes_of, record_bytes, record_of, record_of_class,
 };
@@ -26,7 +26,7 @@ fn records_are_as_described(rt: HostRuntime) -> Result<(), Fail> {
     Ok(())
 }
 
-/// The record of the class that the record of these words gives.
+/// The record of the class that is built from the record of these words.
 fn record_again(alloc: Global, words: &[u64]) -> Result<Record, Fail> {
     let record = Record::read(alloc, words)?;
     let mut spelling = Vec::new(alloc);
@@ -34,7 +34,7 @@ fn record_again(alloc: Global, words: &[u64]) -> Result<Record, Fail> {
     record_of_class(alloc, &class)
 }
 
-/// Whether the record of the class that a record gives has its words.
+/// Whether the record of the class that is built from a record has the same words.
 fn comes_back(alloc: Global, words: &[u64]) -> Result<bool, Fail> {
     let again = record_again(alloc, words)?;
     Ok(has_words(alloc, &again, words)?)
@@ -59,7 +59,7 @@ fn words_with(alloc: Global, count: u32) -> Result<Result<u32, RecordRefusal>, F
     Ok(words_of(alloc, &class))
 }
 
-/// As many bytes of an attribute as the longest record has, after 20 words.
+/// The most bytes of an attribute with which the record isn't too long, after 20 words.
 const MOST: u32 = 8 * (524_288 - 20);
 
 /// Bytes of an attribute, and the words of the record: 20, and one for each eight bytes.

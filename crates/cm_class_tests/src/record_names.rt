@@ -35,13 +35,13 @@ fn accessors_give_the_parts_of_the_class(rt: HostRuntime) -> Result<(), Fail> {
     Ok(())
 }
 
-/// How long the name of the class is whose record has these words.
+/// The length of the name of the class whose record has these words.
 fn name_len(alloc: Global, words: &[u64]) -> Result<usize, Fail> {
     let record = Record::read(alloc, words)?;
     Ok(record.class_name(alloc)?.len())
 }
 
-// The second word of class A's record with another this_class.
+// The second word of class A's record with a different this_class.
 const NAMELESS: [u64; 4] = [
     0x0000_0003_0000_0021,
     0x0000_0003_0002_0021,

@@ -101,8 +101,8 @@ const BEHIND_LONGS: [(u16, Option<Constant<Utf8Place>>); 8] = [
     (12, None),
 ];
 
-// Longs whose bits look like the directory words of Longs: each second slot is unusable all the
-// same.
+// Longs whose bits look like the directory words of Longs: each second slot is unusable
+// nevertheless.
 #[test]
 fn bits_that_look_like_constants_are_none(rt: HostRuntime) -> Result<(), Fail> {
     let parts: [&[u8]; 5] = [
@@ -127,7 +127,7 @@ static BODY: [u8; 21] = [
     0, 2, 0, 3, 0, 0, 0, 1, 0xb1, 0, 1, 0, 0, 0, 1, 0, 0, 0, 0, 0, 0,
 ];
 
-// What stands between the pool and the last byte of the code's length.
+// The bytes between the pool and the last byte of the code's length.
 const BEFORE_CODE: [u8; 56] = [
     0, 0x21, 0, 1, 0, 3, 0, 0, // flags, this, super, no interfaces
     0, 2, 0, 1, 0, 5, 0, 8, 0, 0, 0, 2, 0, 5, 0, 6, 0, 0, // two fields
@@ -224,7 +224,7 @@ fn others_have_none(record: &Record, method: Member) -> bool {
     true
 }
 
-// Whether a code has the parts of the body, which lies there among the record's bytes.
+// Whether a code has the parts of the body, which is there among the record's bytes.
 fn is_body(code: &Code, bytes: &[u8]) -> bool {
     let expected = Code {
         max_stack: 2,
@@ -240,7 +240,7 @@ fn is_body(code: &Code, bytes: &[u8]) -> bool {
         && &bytes[at..end] == &BODY[8..19]
 }
 
-// That the method has the code of the body, and nothing else has code.
+// Checks that the method has the code of the body, and nothing else has code.
 fn has_code(rt: &impl Abort, record: &Record, bytes: &[u8]) -> Result<(), Fail> {
     let method = method_of(record)?;
     let code = record.code(&method).ok_or("it has a code")?;
@@ -262,8 +262,8 @@ fn is_code(alloc: Global, body: &[u8]) -> Result<bool, Fail> {
     Ok(record.code(&method).is_some())
 }
 
-// Ten bytes are there before the code's end is known, and the handlers begin after a byte of code
-// and their number.
+// Ten bytes come before the code's end is known, and the handlers begin after one byte of code and
+// their number.
 #[test]
 fn a_code_that_ends_early_is_none(rt: HostRuntime) -> Result<(), Fail> {
     for end in 0..BODY.len() {
@@ -273,8 +273,8 @@ fn a_code_that_ends_early_is_none(rt: HostRuntime) -> Result<(), Fail> {
     Ok(())
 }
 
-// Bytes of class A, what stands in their place, and whether it has the same name then: a letter of
-// its name; this_class 3, which leads to `java/lang/Object`, and 2, a Utf8, which leads to no name.
+// A place in class A, the byte put there, and whether it then has the same name: a letter of its
+// name; this_class 3, which leads to `java/lang/Object`, and 2, a Utf8, which leads to no name.
 const OTHER_BYTES: [(usize, u8, bool); 4] = [
     (16, 0x42, false),
     (42, 3, false),
@@ -310,7 +310,7 @@ fn order(alloc: Global, one: u8, two: u8) -> Result<Ordering, Fail> {
     Ok(one.cmp_name(&two))
 }
 
-// Two letters, and the order of the first beside the second.
+// Two letters, and the order of the first and the second.
 const ORDERS: [(u8, u8, Ordering); 3] = [
     (b'B', 0xc3, Ordering::Less),
     (0xc3, b'B', Ordering::Greater),
@@ -340,7 +340,7 @@ fn are_ordered(record: &Record, names: &[(&[u8], Ordering)]) -> bool {
     true
 }
 
-// Whether the name of the class of these bytes is in this order beside each of these.
+// Whether the name of the class of these bytes compares like this with each of these.
 fn is_ordered(alloc: Global, bytes: &[u8], names: &[(&[u8], Ordering)]) -> Result<bool, Fail> {
     let record = record_of(alloc, bytes)?;
     Ok(are_ordered(&record, names))

@@ -1,4 +1,4 @@
-//! Classes and their records, and what makes them.
+//! Classes and their records, and how to make them.
 use cm_class::{Class, read_shape};
 use cm_record::{Record, build};
 use std::alloc::{AllocError, Global};
@@ -49,7 +49,7 @@ pub const ALL_TAGS: [u8; 162] = [
     0, 1, 0, 1, 0, 0, 0, 5, 5, 4, 3, 2, 1, // an attribute of the class
 ];
 
-// Its record, by hand from the layout's description.
+// Its record, written by hand from the layout's description.
 pub const RECORD_ALL_TAGS: [u64; 44] = [
     44,
     0x0002_0000_0008_0021,

@@ -1,7 +1,7 @@
-//! Replies to commands and questions, letter by letter.
+//! Replies to commands and requests, letter by letter.
 
 use crate::samples::CLASS_A;
-use cm_prepare::{BadClass, Refusal, prepare};
+use cm_commands::{BadClass, Refusal, prepare};
 use cm_rules::{Broken, Rule, Spot};
 use cm_tool::{Reply, ReplyKind};
 use std::alloc::AllocError;
@@ -12,7 +12,7 @@ fn tells(reply: &Reply, kind: ReplyKind, line: &[u8]) -> bool {
     reply.kind == kind && reply.line.as_slice() == line
 }
 
-/// That there is a reply, of this kind and with this line.
+/// Checks that there is a reply, of this kind and with this line.
 fn is_told(
     rt: &impl Abort,
     reply: Result<Reply, AllocError>,

@@ -8,7 +8,7 @@ pub const CLASS_A: [u8; 53] = [
     0x21, 0, 1, 0, 3, 0, 0, 0, 0, 0, 0, 0, 0,
 ];
 
-/// A class file with each kind of part. The heading, and one constant of each kind, with two slots
+/// A class file with each kind of part: the heading, and one constant of each kind, with two slots
 /// for each Long and Double; an interface, a field with an attribute of two bytes, a method, and an
 /// attribute with none.
 pub const EACH_KIND: [u8; 125] = [
@@ -19,7 +19,7 @@ pub const EACH_KIND: [u8; 125] = [
     1, 4, 1, 0, 2, 0, 3, 0, 0, 0, 1, 0, 5, 0, 0, 0, 0,
 ];
 
-/// Class A with another byte in the place of one of its own.
+/// Class A with one of its bytes replaced.
 pub fn with_byte(place: usize, byte: u8) -> [u8; 53] {
     let mut bytes = CLASS_A;
     if let Some(here) = bytes.get_mut(place) {

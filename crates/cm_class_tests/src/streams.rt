@@ -1,10 +1,10 @@
-//! Streams of class files: taken apart, and cut short.
+//! Streams of class files: split, and cut short.
 
 use cm_stream::{StreamFault, classes_in};
 use std::alloc::Global;
 use std::test::Fail;
 
-// Three classes, as far as a stream knows: of two bytes, of none, and of one.
+// Three classes, as far as the stream is concerned: of two bytes, of none, and of one.
 const STREAM: [u8; 15] = [0, 0, 0, 2, 0xca, 0xfe, 0, 0, 0, 0, 0, 0, 0, 1, 7];
 
 /// Whether classes are the three of the stream.
@@ -28,7 +28,7 @@ fn fault_of(alloc: Global, bytes: &[u8]) -> Option<StreamFault> {
     classes_in(alloc, bytes).err()
 }
 
-/// How many bytes are left of the stream, and why they are none.
+/// How many bytes are left of the stream, and why they are no stream.
 const CUTS: [(usize, StreamFault); 7] = [
     (1, StreamFault::InLength(0)),
     (3, StreamFault::InLength(0)),
@@ -46,7 +46,7 @@ fn cut_streams_are_refused(rt: HostRuntime) -> Result<(), Fail> {
         let bytes = STREAM.get(..*len).ok_or("a part of the stream")?;
         assert!(rt; fault_of(alloc, bytes) == Some(*fault), "of {len} bytes");
     }
-    // A length that no memory could hold asks for none.
+    // A length that no memory could hold causes no allocation.
     let found = fault_of(alloc, &[0xff, 0xff, 0xff, 0xff, 1]);
     assert_eq!(rt; found, Some(StreamFault::InClass(0)));
     Ok(())

@@ -1,11 +1,11 @@
--- What one device call makes of a committer.
+-- What one device call does to a committer.
 -- For `Committer::advance`, `Committer::images`, `Committer::offer`, `Committer::steps_left`.
 use Rattle.std.proofs.Common.{◌≡◌, ℕ, ◌+◌, ◌^◌, ◌<◌, ◌≤◌, Bool, true, false, cond, List, []}
 use Rattle.std.proofs.Common.{◌∷◌, ◌++◌, length}
 use Rattle.std.proofs.Common.{Option, Some, None, refl, sym, ap, subst, ◌∙◌, arith}
 use Rattle.std.specs.Prelude.{Result, Ok, Err, OnOk, OnErr, IfOk, nat_lt}
 use Rattle.std.specs.List.{list_all}
-use Rattle.cm_disk.specs.Disk.{OnlyNow, View, IsSettled, IsSound}
+use Rattle.cm_disk.specs.Disk.{OnlyNow, View, IsDurable, IsSound}
 use Rattle.cm_pool.specs.Geometry.{Sizes}
 use Rattle.cm_layout.specs.declared.row.Row.{Row}
 use Rattle.cm_layout.specs.Rows.{bare, rows_with, numbers_in}
@@ -17,13 +17,13 @@ use Rattle.cm_guards.specs.Guards.{EachImage}
 use Rattle.cm_guards.specs.Calls.{LeavesOnly}
 use Rattle.cm_guards.specs.Stages.{Stage, after_call, calls_left, leaves, CallsOnce, TakesCall}
 use Rattle.cm_guards.specs.Stages.{StagesStand}
-use Rattle.cm_guards.proofs.{settled_images, leaves_more, takes_call, stages_leave, call_done}
+use Rattle.cm_guards.proofs.{durable_images, leaves_more, takes_call, stages_leave, call_done}
 use Rattle.cm_guards.proofs.{call_failed, call_moments as moments_of, leaves_so, leaves_one}
 use Rattle.cm_rows.specs.Rows.{LiveRows, is_above}
 use Rattle.cm_group.specs.Groups.{Handed, AreRight, entries_in}
 use Rattle.cm_state.specs.State.{words_show}
 use Rattle.cm_state.specs.Entries.{AreCacheRows}
-use Rattle.cm_commit.specs.declared.journal.Journal.{Journal}
+use Rattle.cm_commit.specs.declared.journal_end.JournalEnd.{JournalEnd}
 use Rattle.cm_commit.specs.declared.step.TrimStep.{TrimStep}
 use Rattle.cm_commit.specs.declared.step.TrimStep.TheVariants as trim
 use Rattle.cm_commit.specs.declared.step.PlanStep.{PlanStep}
@@ -33,14 +33,15 @@ use Rattle.cm_commit.specs.Committed.{Committed, journal_of, with_group}
 use Rattle.cm_commit.specs.Checkpoints.{ready_for, target_of}
 use Rattle.cm_commit.specs.Offers.{committed_after}
 use Rattle.cm_commit.specs.GroupPlans.{whole_roots, roots_of_entries, all_writes}
-use Rattle.cm_commit.specs.Guarding.{Shows, Holds, IsCommitted}
+use Rattle.cm_commit.specs.Guarding.{ContentsShow, HoldsCommitted, IsCommitted}
 use Rattle.cm_commit.specs.States.{Work, Storing, Trimming, NoGroup, CommitterState, MayLeave}
 use Rattle.cm_commit.specs.States.{ShowsCommitted, ShowsWith, journal_at}
 use Rattle.cm_commit.specs.Steps.{FitsJournal, FitsHalf, plan_left, stages_left, checkpoint_left}
 use Rattle.cm_commit.specs.Steps.{work_of, is_trim, trim_left}
 use Rattle.cm_commit.specs.Trims.{roots_of_rows}
 use Rattle.cm_commit.specs.Advances.{with_committed}
-use Rattle.cm_commit.specs.Keeps.{IsCommitter, IsIdle, IsBusy, IsTrimming, IsAt, StandsBroken}
+use Rattle.cm_commit.specs.Keeps.{IsCommitter, IsIdle, IsBusy, IsTrimming, StandsDuring}
+use Rattle.cm_commit.specs.Keeps.{StandsBroken}
 use Rattle.cm_commit.specs.Keeps.{roots_then}
 use Rattle.cm_commit.specs.Keeps.{rows_then}
 use Rattle.cm_commit.proofs.Committing.{fits_journal, cache_after, right_rows_after}
@@ -65,12 +66,12 @@ module _ {D : Type 0} (view : View D) (s : CommitterState D)
   abbrev before : Committed
   before = record { sizes = s.sizes; rows = s.rows; number = s.number; framing = i.framing }
 
-  shows_before : (image : List ℕ) → Holds before image → ShowsCommitted s image
+  shows_before : (image : List ℕ) → HoldsCommitted before image → ShowsCommitted s image
   shows_before image held =
       shows_cache (record before { framing = held.framing }) image held.right i.records
       i.cache.differ held.matches
 
-  newest_before : (image : List ℕ) → Holds before image → IsNewest image
+  newest_before : (image : List ℕ) → HoldsCommitted before image → IsNewest image
   newest_before image held = record {
     sizes = s.sizes;
     rows = s.rows;
@@ -82,7 +83,7 @@ module _ {D : Type 0} (view : View D) (s : CommitterState D)
   -- the half of a checkpoint fits
   pub half : FitsHalf (journal_at s) (bare s.rows)
   half =
-      subst (λ (j : Journal). FitsHalf j (bare s.rows)) (sym i.journal_is)
+      subst (λ (j : JournalEnd). FitsHalf j (bare s.rows)) (sym i.journal_is)
       (half_fits before i.right)
 
   -- the roots that rows use are few
@@ -95,10 +96,11 @@ module _ {D : Type 0} (view : View D) (s : CommitterState D)
       → EachImage (view.contents s.disk) (view.unsynced s.disk) (MayLeave s)
   idle_images none empty =
       let at : IsIdle before roots s.broken (view.contents s.disk) (view.unsynced s.disk) =
-      subst (λ (o : Option Work). IsAt before roots o s.left s.broken (view.contents s.disk)
+      subst (λ (o : Option Work). StandsDuring before roots o s.left s.broken (view.contents s.disk)
       (view.unsynced s.disk)) none i.at in
-      let images = settled_images (Shows before) (view.contents s.disk) (view.unsynced s.disk)
-      at.settled
+      let images = durable_images (ContentsShow before) (view.contents s.disk)
+      (view.unsynced s.disk)
+      at.durable
       at.shows in
       record {
         each = λ image is.
@@ -111,23 +113,26 @@ module _ {D : Type 0} (view : View D) (s : CommitterState D)
       → EachImage (view.contents s.disk) (view.unsynced s.disk) IsNewest
   idle_newest none =
       let at : IsIdle before roots s.broken (view.contents s.disk) (view.unsynced s.disk) =
-      subst (λ (o : Option Work). IsAt before roots o s.left s.broken (view.contents s.disk)
+      subst (λ (o : Option Work). StandsDuring before roots o s.left s.broken (view.contents s.disk)
       (view.unsynced s.disk)) none i.at in
-      let images = settled_images (Shows before) (view.contents s.disk) (view.unsynced s.disk)
-      at.settled
+      let images = durable_images (ContentsShow before) (view.contents s.disk)
+      (view.unsynced s.disk)
+      at.durable
       at.shows in
       record {
         each = λ image is.
             newest_before image (shows_holds before image i.right (images.each image is));
       }
 
-  -- ---- stages are left, which lead to what is committed then
+  -- ---- stages are left, which lead to what is committed in the end
 
   module _ (then : Committed) (long : ℕ) (some : s.left ≡ [] → ⊥)
-      (shows_then : (image : List ℕ) → Shows then image → ShowsWith s s.underway image) where
-    so : (image : List ℕ) → leaves s.left (Holds before) (Shows then) image → MayLeave s image
+      (shows_then : (image : List ℕ) → ContentsShow then image → ShowsWith s s.underway image) where
+    so : (image : List ℕ) → leaves s.left (HoldsCommitted before) (ContentsShow then) image
+        → MayLeave s image
     so image l =
-        leaves_so s.left (Holds before) (Shows then) (ShowsCommitted s) (ShowsWith s s.underway)
+        leaves_so s.left (HoldsCommitted before) (ContentsShow then) (ShowsCommitted s)
+        (ShowsWith s s.underway)
         shows_before shows_then image l
 
     abbrev Stand : Bool → Type 0
@@ -135,9 +140,9 @@ module _ {D : Type 0} (view : View D) (s : CommitterState D)
 
     stages_left_behind : (t : Bool) → Stand t
         → EachImage (view.contents s.disk) (view.unsynced s.disk)
-        (leaves s.left (Holds before) (Shows then))
+        (leaves s.left (HoldsCommitted before) (ContentsShow then))
     stages_left_behind false stands =
-        stages_leave (Holds before) (Shows then) long s.left (view.contents s.disk)
+        stages_leave (HoldsCommitted before) (ContentsShow then) long s.left (view.contents s.disk)
         (view.unsynced s.disk) some stands
     stages_left_behind true stands = stands
 
@@ -147,20 +152,23 @@ module _ {D : Type 0} (view : View D) (s : CommitterState D)
         let images = stages_left_behind s.broken at in
         record { each = λ image is. so image (images.each image is) }
 
-    -- in halves of the newest version, if those that it leads to are
-    pub stage_newest : ((image : List ℕ) → Shows then image → IsNewest image) → Stand s.broken
+    -- a crash leaves halves of the newest version, if those that the stages lead to are
+    pub stage_newest : ((image : List ℕ) → ContentsShow then image → IsNewest image)
+        → Stand s.broken
         → EachImage (view.contents s.disk) (view.unsynced s.disk) IsNewest
     stage_newest newest_then at =
         let images = stages_left_behind s.broken at in
         record {
           each = λ image is.
               leaves_one s.left IsNewest image
-              (leaves_so s.left (Holds before) (Shows then) IsNewest IsNewest newest_before
+              (leaves_so s.left (HoldsCommitted before) (ContentsShow then) IsNewest IsNewest
+              newest_before
               newest_then image (images.each image is));
         }
 
     module _ (at : Stand s.broken) (sound : s.broken ≡ false) where
-      stands : StagesStand (Holds before) (Shows then) long s.left (view.contents s.disk)
+      stands : StagesStand (HoldsCommitted before) (ContentsShow then) long s.left
+          (view.contents s.disk)
           (view.unsynced s.disk)
       stands = subst Stand sound at
 
@@ -168,7 +176,7 @@ module _ {D : Type 0} (view : View D) (s : CommitterState D)
       pub stage_takes : IsSound (view.contents s.disk) (view.unsynced s.disk)
           → TakesCall s.left (length (view.contents s.disk))
       stage_takes is =
-          takes_call (Holds before) (Shows then) long s.left (view.contents s.disk)
+          takes_call (HoldsCommitted before) (ContentsShow then) long s.left (view.contents s.disk)
           (view.unsynced s.disk) is
           some stands
 
@@ -177,28 +185,30 @@ module _ {D : Type 0} (view : View D) (s : CommitterState D)
         -- what a crash leaves meanwhile
         pub stage_moments : LeavesOnly view s.disk new (MayLeave s)
         stage_moments =
-            leaves_more view s.disk new (leaves s.left (Holds before) (Shows then))
+            leaves_more view s.disk new (leaves s.left (HoldsCommitted before) (ContentsShow then))
             (MayLeave s) so
-            (moments_of view only_now (Holds before)
-            (Shows then) long s.disk new r s.left stands call)
+            (moments_of view only_now (HoldsCommitted before)
+            (ContentsShow then) long s.disk new r s.left stands call)
 
         pub stage_done : (x : T) → r ≡ Ok x
-            → StagesStand (Holds before) (Shows then) long (after_call s.left) (view.contents new)
+            → StagesStand (HoldsCommitted before) (ContentsShow then) long (after_call s.left)
+            (view.contents new)
             (view.unsynced new)
         stage_done x e =
-            of_ok r (StagesStand (Holds before) (Shows then) long (after_call s.left)
+            of_ok r (StagesStand (HoldsCommitted before) (ContentsShow then) long
+            (after_call s.left)
             (view.contents new) (view.unsynced new)) x e
-            (call_done view only_now (Holds before)
-            (Shows then) long s.disk new r s.left stands call)
+            (call_done view only_now (HoldsCommitted before)
+            (ContentsShow then) long s.disk new r s.left stands call)
 
         pub stage_failed : (f : E) → r ≡ Err f
             → EachImage (view.contents new) (view.unsynced new)
-            (leaves s.left (Holds before) (Shows then))
+            (leaves s.left (HoldsCommitted before) (ContentsShow then))
         stage_failed f e =
             of_err r (EachImage (view.contents new) (view.unsynced new)
-            (leaves s.left (Holds before) (Shows then))) f e
-            (call_failed view only_now (Holds before)
-            (Shows then) long s.disk new r s.left stands call)
+            (leaves s.left (HoldsCommitted before) (ContentsShow then))) f e
+            (call_failed view only_now (HoldsCommitted before)
+            (ContentsShow then) long s.disk new r s.left stands call)
 
   -- ---- a trim is under way
 
@@ -206,13 +216,14 @@ module _ {D : Type 0} (view : View D) (s : CommitterState D)
     pub trim_at : IsTrimming before roots s.left s.broken (view.contents s.disk)
         (view.unsynced s.disk)
     trim_at =
-        subst (λ (o : Option Work). IsAt before roots o s.left s.broken (view.contents s.disk)
+        subst (λ (o : Option Work). StandsDuring before roots o s.left s.broken
+        (view.contents s.disk)
         (view.unsynced s.disk)) trimming i.at
 
     abbrev left_long : ℕ
     left_long = root_at s.sizes roots
 
-    shows_still : (image : List ℕ) → Shows before image → ShowsWith s s.underway image
+    shows_still : (image : List ℕ) → ContentsShow before image → ShowsWith s s.underway image
     shows_still image shows =
         subst (λ (o : Option Work). ShowsWith s o image) (sym trimming)
         (shows_before image (shows_holds before image i.right shows))
@@ -239,7 +250,7 @@ module _ {D : Type 0} (view : View D) (s : CommitterState D)
             stage_moments before left_long trim_at.some shows_still trim_at.stands sound only_now
             new r call
 
-        -- it failed
+        -- the call failed
         pub trim_is_broken : (f : E) → r ≡ Err f
             → IsCommitter view (record s { disk = new; broken = true }) sizes next
             roots room
@@ -254,7 +265,8 @@ module _ {D : Type 0} (view : View D) (s : CommitterState D)
           sizes_are = i.sizes_are;
           next_is = i.next_is;
           room_is = i.room_is;
-          at = subst (λ (o : Option Work). IsAt before roots o s.left true (view.contents new)
+          at = subst (λ (o : Option Work). StandsDuring before roots o s.left true
+              (view.contents new)
               (view.unsynced new)) (sym trimming) (record {
                 some = trim_at.some;
                 roots_are = trim_at.roots_are;
@@ -279,32 +291,36 @@ module _ {D : Type 0} (view : View D) (s : CommitterState D)
           sizes_are = i.sizes_are;
           next_is = i.next_is;
           room_is = i.room_is;
-          at = subst (λ (t : Bool). IsAt before roots s.underway left t (view.contents new)
+          at = subst (λ (t : Bool). StandsDuring before roots s.underway left t (view.contents new)
               (view.unsynced new)) (sym sound)
-              (subst (λ (o : Option Work). IsAt before roots o left false (view.contents new)
+              (subst (λ (o : Option Work). StandsDuring before roots o left false
+              (view.contents new)
               (view.unsynced new)) (sym trimming) (record {
                 some = some;
                 roots_are = trim_at.roots_are;
-                stands = subst (λ (l : List Stage). StagesStand (Holds before) (Shows before)
+                stands = subst (λ (l : List Stage). StagesStand (HoldsCommitted before)
+                    (ContentsShow before)
                     left_long l (view.contents new) (view.unsynced new)) (sym left_is)
                     (stage_done before left_long trim_at.some shows_still trim_at.stands sound
                     only_now new r call x e);
               }));
         }
 
-        -- none is left
+        -- no call is left
         module _ (x : T) (ok : r ≡ Ok x) (last : after_call s.left ≡ []) where
-          trim_stored : StagesStand (Holds before) (Shows before) left_long [] (view.contents new)
+          trim_stored : StagesStand (HoldsCommitted before) (ContentsShow before) left_long []
+              (view.contents new)
               (view.unsynced new)
           trim_stored =
-              subst (λ (l : List Stage). StagesStand (Holds before) (Shows before) left_long l
+              subst (λ (l : List Stage). StagesStand (HoldsCommitted before) (ContentsShow before)
+              left_long l
               (view.contents new) (view.unsynced new)) last
               (stage_done before left_long trim_at.some shows_still trim_at.stands sound only_now
               new r call x ok)
 
           pub trim_ends : (length (view.contents new) ≡ root_at s.sizes roots)
-              × IsSettled (view.contents new) (view.unsynced new)
-          trim_ends = (trim_stored.ready.size, trim_stored.settled)
+              × IsDurable (view.contents new) (view.unsynced new)
+          trim_ends = (trim_stored.ready.size, trim_stored.durable)
 
           pub is_trimmed : IsCommitter view
               (record s { disk = new; underway = None; left = [] }) sizes next roots room
@@ -325,7 +341,7 @@ module _ {D : Type 0} (view : View D) (s : CommitterState D)
             room_is = i.room_is;
             at = record {
               sound = sound;
-              settled = trim_stored.settled;
+              durable = trim_stored.durable;
               shows = trim_stored.ready.holds;
               roots_are = sym (whole_used s.sizes roots)
                   ∙ ap (whole_roots s.sizes) (sym trim_stored.ready.size);
@@ -338,7 +354,8 @@ module _ {D : Type 0} (view : View D) (s : CommitterState D)
     pub busy : IsBusy before roots group s.left s.broken (view.contents s.disk)
         (view.unsynced s.disk)
     busy =
-        subst (λ (o : Option Work). IsAt before roots o s.left s.broken (view.contents s.disk)
+        subst (λ (o : Option Work). StandsDuring before roots o s.left s.broken
+        (view.contents s.disk)
         (view.unsynced s.disk)) underway i.at
 
     -- what is committed, in halves that have room for it
@@ -348,16 +365,16 @@ module _ {D : Type 0} (view : View D) (s : CommitterState D)
     abbrev after : Committed
     after = committed_after ready group
 
-    -- where it goes
+    -- where the group is written
     pub target_ready : target_of (journal_at s) (bare s.rows) group.entries ≡ journal_of ready
     target_ready =
-        ap (λ (j : Journal). target_of j (bare s.rows) group.entries) i.journal_is
+        ap (λ (j : JournalEnd). target_of j (bare s.rows) group.entries) i.journal_is
         ∙ target_is before group.entries
 
     -- the writes of the group fit
     pub fits : FitsJournal (target_of (journal_at s) (bare s.rows) group.entries) group
     fits =
-        subst (λ (j : Journal). FitsJournal j group) (sym target_ready)
+        subst (λ (j : JournalEnd). FitsJournal j group) (sym target_ready)
         (fits_journal ready group (ready_right before group i.right busy.is busy.next) busy.is
         busy.counted (ready_next before group i.right busy.is busy.next))
 
@@ -388,12 +405,12 @@ module _ {D : Type 0} (view : View D) (s : CommitterState D)
         right_rows_after s.sizes s.rows s.rows s.number group.entries i.records busy.is.right
         busy.next.entries
 
-    shows_after : (image : List ℕ) → Shows after image → ShowsWith s s.underway image
+    shows_after : (image : List ℕ) → ContentsShow after image → ShowsWith s s.underway image
     shows_after image shows =
         subst (λ (o : Option Work). ShowsWith s o image) (sym underway)
         (shows_cache after image right-next records-next cache-next.differ shows)
 
-    newest_after : (image : List ℕ) → Shows after image → IsNewest image
+    newest_after : (image : List ℕ) → ContentsShow after image → IsNewest image
     newest_after image shows = record {
       sizes = after.sizes;
       rows = after.rows;
@@ -424,12 +441,12 @@ module _ {D : Type 0} (view : View D) (s : CommitterState D)
             call
 
         done : (x : T) → r ≡ Ok x
-            → StagesStand (Holds before) (Shows after) busy.long (after_call s.left)
+            → StagesStand (HoldsCommitted before) (ContentsShow after) busy.long (after_call s.left)
             (view.contents new) (view.unsynced new)
         done =
             stage_done after busy.long busy.some shows_after busy.stands sound only_now new r call
 
-        -- it failed
+        -- the call failed
         pub is_broken : (f : E) → r ≡ Err f → (more : ℕ) → room ≤ more
             → IsCommitter view (record s { disk = new; broken = true }) sizes next
             roots more
@@ -444,7 +461,8 @@ module _ {D : Type 0} (view : View D) (s : CommitterState D)
           sizes_are = i.sizes_are;
           next_is = i.next_is;
           room_is = omega (arith, i.room_is, le);
-          at = subst (λ (o : Option Work). IsAt before roots o s.left true (view.contents new)
+          at = subst (λ (o : Option Work). StandsDuring before roots o s.left true
+              (view.contents new)
               (view.unsynced new)) (sym underway) (record {
                 is = busy.is;
                 next = busy.next;
@@ -457,7 +475,7 @@ module _ {D : Type 0} (view : View D) (s : CommitterState D)
               });
         }
 
-        -- others are left
+        -- other calls are left
         pub is_working : (x : T) → r ≡ Ok x → (left : List Stage) → left ≡ after_call s.left
             → (left ≡ [] → ⊥) → (more : ℕ) → room ≤ more
             → IsCommitter view (record s { disk = new; left = left }) sizes next roots
@@ -473,9 +491,10 @@ module _ {D : Type 0} (view : View D) (s : CommitterState D)
           sizes_are = i.sizes_are;
           next_is = i.next_is;
           room_is = omega (arith, i.room_is, le);
-          at = subst (λ (t : Bool). IsAt before roots s.underway left t (view.contents new)
+          at = subst (λ (t : Bool). StandsDuring before roots s.underway left t (view.contents new)
               (view.unsynced new)) (sym sound)
-              (subst (λ (o : Option Work). IsAt before roots o left false (view.contents new)
+              (subst (λ (o : Option Work). StandsDuring before roots o left false
+              (view.contents new)
               (view.unsynced new)) (sym underway) (record {
                 is = busy.is;
                 next = busy.next;
@@ -483,13 +502,14 @@ module _ {D : Type 0} (view : View D) (s : CommitterState D)
                 some = some;
                 long = busy.long;
                 roots_are = busy.roots_are;
-                stands = subst (λ (l : List Stage). StagesStand (Holds before) (Shows after)
+                stands = subst (λ (l : List Stage). StagesStand (HoldsCommitted before)
+                    (ContentsShow after)
                     busy.long l (view.contents new) (view.unsynced new)) (sym left_is) (done x e);
               }));
         }
 
-        -- it was the last; the group went where the journal goes on so
-        abbrev done_at : Journal → CommitterState D
+        -- it was the last call; the group was written where this journal ends
+        abbrev done_at : JournalEnd → CommitterState D
         done_at to = record (with_committed s to group new) {
           sizes = to.geometry;
           number = to.number + length group.entries;
@@ -499,7 +519,8 @@ module _ {D : Type 0} (view : View D) (s : CommitterState D)
             → IsCommitter view (done_at (journal_of ready)) sizes next
             (roots_then roots group) more
         finished_ready x e last more le =
-            let stored = subst (λ (l : List Stage). StagesStand (Holds before) (Shows after)
+            let stored = subst (λ (l : List Stage). StagesStand (HoldsCommitted before)
+            (ContentsShow after)
             busy.long l (view.contents new) (view.unsynced new)) last (done x e) in
             record {
               framing = with_group ready.framing (entries_in group.entries);
@@ -520,19 +541,19 @@ module _ {D : Type 0} (view : View D) (s : CommitterState D)
               room_is = omega (arith, i.room_is, le);
               at = record {
                 sound = sound;
-                settled = stored.settled;
+                durable = stored.durable;
                 shows = stored.ready.holds;
                 roots_are = busy.roots_are
                     ∙ ap (whole_roots s.sizes) (sym stored.ready.size);
               };
             }
 
-        pub is_finished : (to : Journal)
+        pub is_finished : (to : JournalEnd)
             → to ≡ target_of (journal_at s) (bare s.rows) group.entries → (x : T) → r ≡ Ok x
             → after_call s.left ≡ [] → (more : ℕ) → room ≤ more
             → IsCommitter view (done_at to) sizes next (roots_then roots group) more
         is_finished to to_is x e last more le =
-            subst (λ (j : Journal). IsCommitter view (done_at j) sizes next
+            subst (λ (j : JournalEnd). IsCommitter view (done_at j) sizes next
             (roots_then roots group) more) (sym (to_is ∙ target_ready))
             (finished_ready x e last more le)
 
@@ -562,8 +583,8 @@ pub steps_are : (broken : Bool) (left : List Stage) (n : ℕ) → broken ≡ fal
 steps_are true left n e same = absurd (cc)
 steps_are false left n e same = same
 
--- what is seen once a group is committed, where it went to such a journal
-pub as_committed : {D : Type 0} (s : CommitterState D) (to target : Journal) (group : Handed)
+-- the state of a committer once a group is committed that was written where this journal ends
+pub as_committed : {D : Type 0} (s : CommitterState D) (to target : JournalEnd) (group : Handed)
     (disk : D) → to ≡ target → target.geometry ≡ s.sizes → target.number ≡ s.number
     → record (with_committed s to group disk) {
       sizes = to.geometry;
@@ -572,8 +593,8 @@ pub as_committed : {D : Type 0} (s : CommitterState D) (to target : Journal) (gr
     ≡ with_committed s target group disk
 as_committed s to target group disk e sizes number =
     λ i. record (with_committed s (e i) group disk) {
-      sizes = (ap (λ (j : Journal). j.geometry) e ∙ sizes) i;
-      number = (ap (λ (j : Journal). j.number) e ∙ number) i + length group.entries;
+      sizes = (ap (λ (j : JournalEnd). j.geometry) e ∙ sizes) i;
+      number = (ap (λ (j : JournalEnd). j.number) e ∙ number) i + length group.entries;
     }
 
 pub told_ok : {T E : Type 0} (r : Result T E) (P : T → Type 0) (x : T) → r ≡ Ok x → IfOk r P → P x
@@ -585,8 +606,9 @@ pub some_behind : (front : List Stage) (stage : Stage) (stages : List Stage)
 some_behind [] stage stages e = absurd (cc)
 some_behind (first ∷ front) stage stages e = absurd (cc)
 
--- while calls are left, stages are
-pub some_stages : (j : Journal) (rows : List BareRow) (roots : ℕ) (group : Handed) (now : PlanStep)
+-- while calls are left, stages are left
+pub some_stages : (j : JournalEnd) (rows : List BareRow) (roots : ℕ) (group : Handed)
+    (now : PlanStep)
     → (now ≡ plan.Group step.Done → ⊥) → is_trim now ≡ false
     → plan_left j rows roots group now ≡ [] → ⊥
 some_stages j rows roots group (plan.Checkpoint at) isnt own e =
@@ -598,7 +620,7 @@ some_stages j rows roots group (plan.Group step.LastSync) isnt own e = absurd (c
 some_stages j rows roots group (plan.Group step.Done) isnt own e = isnt refl
 some_stages j rows roots group (plan.Trim at) isnt own e = absurd (cc)
 
-pub no_stages : (j : Journal) (rows : List BareRow) (roots : ℕ) (group : Handed) (now : PlanStep)
+pub no_stages : (j : JournalEnd) (rows : List BareRow) (roots : ℕ) (group : Handed) (now : PlanStep)
     → now ≡ plan.Group step.Done → plan_left j rows roots group now ≡ []
 no_stages j rows roots group now is = ap (plan_left j rows roots group) is
 
@@ -619,15 +641,15 @@ pub same_work : (o : Option Handed) (group : Handed) (a b : PlanStep) → o ≡ 
     → work_of o a ≡ work_of o b
 same_work o group a b e = group_works o group a e ∙ sym (group_works o group b e)
 
--- where nothing is, no stage is left
-pub nothing_left : (j : Journal) (rows : List BareRow) (roots : ℕ) (o : Option Handed)
+-- if nothing is under way, no stage is left
+pub nothing_left : (j : JournalEnd) (rows : List BareRow) (roots : ℕ) (o : Option Handed)
     (now : PlanStep) → work_of o now ≡ None → stages_left j rows roots o now ≡ []
 nothing_left j rows roots None (plan.Checkpoint at) e = refl
 nothing_left j rows roots None (plan.Group s) e = refl
 nothing_left j rows roots None (plan.Trim at) e = absurd (cc)
 nothing_left j rows roots (Some group) now e = absurd (cc)
 
--- ---- where no group is
+-- ---- no group is under way
 
 pub no_group : (o : Option Handed) (now : PlanStep) → NoGroup (work_of o now) → o ≡ None
 no_group None now h = refl
@@ -637,13 +659,13 @@ pub trim_works : (o : Option Handed) (at : TrimStep) → o ≡ None
     → work_of o (plan.Trim at) ≡ Some Trimming
 trim_works o at none = ap (λ (x : Option Handed). work_of x (plan.Trim at)) none
 
-pub trim_stages : (j : Journal) (rows : List BareRow) (roots : ℕ) (o : Option Handed)
+pub trim_stages : (j : JournalEnd) (rows : List BareRow) (roots : ℕ) (o : Option Handed)
     (at : TrimStep) → o ≡ None
     → stages_left j rows roots o (plan.Trim at) ≡ trim_left j.geometry roots at
 trim_stages j rows roots o at none =
     ap (λ (x : Option Handed). stages_left j rows roots x (plan.Trim at)) none
 
--- and no trim
+-- if neither a group nor a trim is under way, nothing is
 pub nothing_works : (o : Option Handed) (now : PlanStep) → NoGroup (work_of o now)
     → ((at : TrimStep) → now ≡ plan.Trim at → ⊥) → work_of o now ≡ None
 nothing_works None (plan.Checkpoint at) h isnt = refl

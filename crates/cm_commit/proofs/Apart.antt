@@ -24,15 +24,15 @@ use Rattle.cm_layout.specs.Offsets.{half_size, half_at, roots_at, root_at, root_
 use Rattle.cm_layout.specs.Rows.{classes_in, bare, rows_after, used_words, move_writes}
 use Rattle.cm_layout.specs.Rules.{broken_rule, is_chunk, is_unused, is_last_chunk}
 use Rattle.cm_layout.specs.Frames.{bare_entry}
-use Rattle.cm_layout.specs.Framing.{Framing, IsRight, guards, needs, used_size, other_half}
+use Rattle.cm_layout.specs.Framing.{Framing, IsRightFraming, guards, needs, used_size, other_half}
 use Rattle.cm_layout.specs.Framing.{older_size, record_ranges}
 use Rattle.cm_layout.proofs.{length-blank, classes-bare}
 use Rattle.cm_layout.specs.Zeros.{blank}
 use Rattle.cm_guards.specs.Guards.{IsApart}
-use Rattle.cm_guards.specs.Plans.{Write, Fits, CanWrite}
+use Rattle.cm_guards.specs.Plans.{Write, WriteFits, CanWrite}
 use Rattle.cm_group.specs.Groups.{Carried, entries_in}
 use Rattle.cm_commit.specs.Committed.{Committed}
-use Rattle.cm_commit.specs.Guarding.{is_in, guard_of}
+use Rattle.cm_commit.specs.Guarding.{is_in_any, guard_of}
 use Rattle.cm_commit.specs.Offers.{filled, HasOwn, HasRecords, MayJoin, MayJoinAll}
 use Rattle.cm_commit.specs.Offers.{writes_apart}
 use Rattle.cm_commit.specs.GroupPlans.{writes_of, all_writes, record_writes, roots_of_entry}
@@ -63,7 +63,7 @@ pub record InRecord (sizes : Sizes) (rows : List (Row (List ℕ))) (i : ℕ) : T
   pub to : i < record_at sizes row.place + 8 * row.place.words
 
 in_record : (sizes : Sizes) (rows : List (Row (List ℕ))) (i : ℕ)
-    → is_in (record_ranges sizes rows) i ≡ true → InRecord sizes rows i
+    → is_in_any (record_ranges sizes rows) i ≡ true → InRecord sizes rows i
 in_record sizes [] i h = absurd (cc)
 in_record sizes (Loader r ∷ rows) i h =
     let found = in_record sizes rows i h in
@@ -71,7 +71,7 @@ in_record sizes (Loader r ∷ rows) i h =
 in_record sizes (Class r words ∷ rows) i h =
     let at = record_at sizes r.place in
     let n = 8 * r.place.words in
-    elim (or_cases (is_among at n i) (is_in (record_ranges sizes rows) i) h) [
+    elim (or_cases (is_among at n i) (is_in_any (record_ranges sizes rows) i) h) [
       | inl here ↦ record {
         row = r;
         among = inl refl;
@@ -83,15 +83,15 @@ in_record sizes (Class r words ∷ rows) i h =
           record { row = found.row; among = inr found.among; from = found.from; to = found.to }
     ]
 
--- in the superblock and the halves: in front of the gate of the next group, or at it, or in the
--- other half
+-- in the superblock and the halves: before the gate of the next group, or at it, or in the other
+-- half
 pub record InHalves (sizes : Sizes) (f : Framing) (i : ℕ) : Type 0 where
   pub below : i < roots_at sizes
   pub apart : (at n : ℕ) → half_at sizes f.counting + used_size f < at
       → at + n ≤ half_at sizes f.counting + half_size sizes → at ≤ i → i < at + n → ⊥
 
 pub guarded_where : (sizes : Sizes) (f : Framing) (rows : List (Row (List ℕ))) (number i : ℕ)
-    → IsRight sizes f rows number → is_in (guards sizes f rows) i ≡ true
+    → IsRightFraming sizes f rows number → is_in_any (guards sizes f rows) i ≡ true
     → InHalves sizes f i ⊎ InRecord sizes rows i
 guarded_where sizes f rows number i right h =
     let here = half_at sizes f.counting in
@@ -106,7 +106,7 @@ guarded_where sizes f rows number i right h =
     let at_end = end_size used (half_size sizes) right.fits in
     let records = record_ranges sizes rows in
     elim (or_cases (is_among 0 4096 i) (is_among here used i || (is_among (here + used) one i
-    || (is_among there older i || is_in records i))) h) [
+    || (is_among there older i || is_in_any records i))) h) [
       | inl front ↦
           let to = among-to 0 4096 i front in
           inl (record {
@@ -114,7 +114,7 @@ guarded_where sizes f rows number i right h =
             apart = λ at n from upto at_i to_i. omega (arith, begins, to, from, at_i);
           })
       | inr h1 ↦ elim (or_cases (is_among here used i) (is_among (here + used) one i
-          || (is_among there older i || is_in records i)) h1) [
+          || (is_among there older i || is_in_any records i)) h1) [
             | inl half ↦
                 let to = among-to here used i half in
                 inl (record {
@@ -122,7 +122,7 @@ guarded_where sizes f rows number i right h =
                   apart = λ at n from upto at_i to_i. omega (arith, to, from, at_i);
                 })
             | inr h2 ↦ elim (or_cases (is_among (here + used) one i) (is_among there older i
-                || is_in records i) h2) [
+                || is_in_any records i) h2) [
                   | inl end ↦
                       let to = among-to (here + used) one i end in
                       inl (record {
@@ -130,7 +130,7 @@ guarded_where sizes f rows number i right h =
                         apart = λ at n from upto at_i to_i. omega
                             (arith, to, one_byte (nat_lt used (half_size sizes)), from, at_i);
                       })
-                  | inr h3 ↦ elim (or_cases (is_among there older i) (is_in records i) h3) [
+                  | inr h3 ↦ elim (or_cases (is_among there older i) (is_in_any records i) h3) [
                     | inl other ↦
                         let from_other = among-from there older i other in
                         let to_other = among-to there older i other in
@@ -197,7 +197,8 @@ committed_free c r h =
           inr (parts.0, leb-true (used_words r.place.chunk (bare c.rows)) r.place.offset parts.1)
     ]
 
-record-apart : (c : Committed) (r : ClassRow) (n : ℕ) → IsRight c.sizes c.framing c.rows c.number
+record-apart : (c : Committed) (r : ClassRow) (n : ℕ)
+    → IsRightFraming c.sizes c.framing c.rows c.number
     → IsInside c.sizes r.place → IsFree (bare c.rows) r → n ≡ 8 * r.place.words
     → IsApart (guard_of c) (record_at c.sizes r.place) n
 record-apart c r n right is free count = record {
@@ -219,10 +220,10 @@ record-apart c r n right is free count = record {
 }
 
 can-place : (c : Committed) (r : ClassRow) (words : List ℕ) (len : ℕ)
-    → IsRight c.sizes c.framing c.rows c.number → IsInside c.sizes r.place
+    → IsRightFraming c.sizes c.framing c.rows c.number → IsInside c.sizes r.place
     → IsFree (bare c.rows) r → length words ≡ r.place.words
     → root_at c.sizes (r.place.chunk.root + 1) ≤ len
-    → Fits (guard_of c) (place_write c.sizes r.place words) len
+    → WriteFits (guard_of c) (place_write c.sizes r.place words) len
 can-place c r words len right is free has roots =
     let bytes : length (word_bytes words) ≡ 8 * r.place.words =
     omega (arith, length-word_bytes words, has) in
@@ -235,9 +236,9 @@ can-place c r words len right is free has roots =
       apart = record-apart c r (length (word_bytes words)) right is free bytes;
     }
 
--- those of a move, behind this offset of a chunk that no committed row uses
+-- the records of a move, after this offset of a chunk that no committed row uses
 can-move : (c : Committed) (to : Chunk) (offset : ℕ) (records : List (List ℕ)) (len : ℕ)
-    → IsRight c.sizes c.framing c.rows c.number → is_chunk c.sizes to ≡ true
+    → IsRightFraming c.sizes c.framing c.rows c.number → is_chunk c.sizes to ≡ true
     → is_unused to (bare c.rows) ≡ true → offset + words_in records ≤ chunk_size to.order
     → root_at c.sizes (to.root + 1) ≤ len
     → CanWrite (guard_of c) (record_writes c.sizes (move_writes to offset records)) len
@@ -251,7 +252,7 @@ can-move c to offset (words ∷ records) len right lawful free fits roots =
     )
 
 can-record : (c : Committed) (n : ℕ) (rows : List (Row (List ℕ))) (k : Carried) (len : ℕ)
-    → IsRight c.sizes c.framing c.rows c.number → AreCounted rows
+    → IsRightFraming c.sizes c.framing c.rows c.number → AreCounted rows
     → MayJoin c.sizes c.rows rows n k
     → root_at c.sizes (roots_of_entry (bare_entry k.entry)) ≤ len
     → CanWrite (guard_of c) (record_writes c.sizes (writes_of k.entry k.moved)) len
@@ -280,7 +281,7 @@ can-record c n rows k len right counted joins long =
         (omega (arith, words, k.enough)) roots
 
 pub can-records : (c : Committed) (n : ℕ) (rows : List (Row (List ℕ))) (carried : List Carried)
-    (len : ℕ) → IsRight c.sizes c.framing c.rows c.number → AreCounted rows
+    (len : ℕ) → IsRightFraming c.sizes c.framing c.rows c.number → AreCounted rows
     → MayJoinAll c.sizes c.rows rows n carried
     → root_at c.sizes (roots_of_entries (entries_in carried)) ≤ len
     → CanWrite (guard_of c) (record_writes c.sizes (all_writes carried)) len
@@ -326,7 +327,7 @@ needs-among sizes (Class s words ∷ rows) r (inl e) =
     (omega arith)
 needs-among sizes (Class s words ∷ rows) r (inr m) = omega (arith, needs-among sizes rows r m)
 
-root-apart : (c : Committed) (root n len : ℕ) → IsRight c.sizes c.framing c.rows c.number
+root-apart : (c : Committed) (root n len : ℕ) → IsRightFraming c.sizes c.framing c.rows c.number
     → needs c.sizes c.rows ≤ len → whole_roots c.sizes len ≤ root
     → IsApart (guard_of c) (root_at c.sizes root) n
 root-apart c root n len right long behind = record {
@@ -347,8 +348,9 @@ root-apart c root n len right long behind = record {
       ]);
 }
 
--- roots of zeros, one behind another
-pub can-roots : (c : Committed) (from n old len : ℕ) → IsRight c.sizes c.framing c.rows c.number
+-- roots of zeros, one after another
+pub can-roots : (c : Committed) (from n old len : ℕ)
+    → IsRightFraming c.sizes c.framing c.rows c.number
     → needs c.sizes c.rows ≤ old → whole_roots c.sizes old ≤ from → root_at c.sizes from ≤ len
     → (0 < n → from + n ≤ c.sizes.roots) → CanWrite (guard_of c) (root_writes c.sizes from n) len
 can-roots c from zero old len right long behind starts few = tt
@@ -367,7 +369,7 @@ can-roots c from (suc n) old len right long behind starts few =
           right long (omega (arith, behind)) (omega (arith, size)) (λ some. omega (arith, all)),
     )
 
--- and how long the file is behind them
+-- how long the file is after them
 pub roots-size : (sizes : Sizes) (from n len : ℕ) → root_at sizes from ≤ len
     → root_at sizes (from + n) ≤ size_after (root_writes sizes from n) len
 roots-size sizes from zero len starts =

@@ -1,4 +1,4 @@
--- Entries that are applied one after another.
+-- Entries applied one after another.
 -- For `add_entries`, `apply_all`.
 use Rattle.std.proofs.Common.{◌≡◌, ℕ, ◌+◌, ◌-◌, ◌<◌, ◌≤◌, true, false, cond, List, [], ◌∷◌}
 use Rattle.std.proofs.Common.{length, drop, get_or, Option, Some, None, refl, sym, ap, subst, ◌∙◌}
@@ -36,13 +36,13 @@ above_next sizes n rows e some keeps above =
     (subst (λ (m : ℕ). None ≡ broken_rule sizes rows m e) (sym same) keeps)
     (subst (λ (m : ℕ). is_above m rows ≡ true) (sym same) above))
 
--- the next one
+-- the next entry
 pub next_is : (carried : List Carried) (count : ℕ) (c : Carried) → count < length carried
     → c ≡ get_or carried count c → drop count carried ≡ c ∷ drop (count + 1) carried
 next_is carried count c lt is =
     drop_more carried count c lt ∙ ap (λ (d : Carried). d ∷ drop (count + 1) carried) (sym is)
 
--- keeps the rules, and is applied
+-- the next entry keeps the rules, and is applied
 pub one_more : (old : LiveRows (Unit {0})) (first : ℕ) (carried : List Carried)
     (book : LiveRows (Unit {0})) (number count : ℕ) (c : Carried) → 1 ≤ first
     → AreApplied old first carried book number count → count < length carried
@@ -68,7 +68,7 @@ one_more old first carried book number count c some are lt is keeps =
           ∙ ap (λ (l : List Carried). rows_after_all book.rows (entries_in l)) split;
     }
 
--- breaks one
+-- the next entry breaks a rule
 pub one_breaks : (old : LiveRows (Unit {0})) (first : ℕ) (carried : List Carried)
     (book : LiveRows (Unit {0})) (number count : ℕ) (c : Carried) (rule : Option EntryRule)
     → AreApplied old first carried book number count → count < length carried

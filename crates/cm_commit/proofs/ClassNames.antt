@@ -1,4 +1,4 @@
--- Whether a class's name is new is told by what is committed and by the entries before it.
+-- Whether a class's name is new, by what is committed and by the entries before it.
 -- For `take_group`.
 use Rattle.std.proofs.Common.{◌≡◌, ℕ, Bool, true, false, cond, not, List, []}
 use Rattle.std.proofs.Common.{◌∷◌, ◌++◌, Some, None, inl, inr, refl, sym, ap, subst, ◌∙◌}
@@ -163,7 +163,7 @@ live-without u v rows live = by_test (eqb u v) refl
         let turned = other v v u (eq-eqb v v refl) differ in
         (sym (ap is_some (name-without u v rows turned)) ∙ live, differ)
 
--- a loader that is left lived before, and has the classes that it had
+-- a loader that is left was live before, and has the classes that it had
 pub record IsLeft (u : ℕ) (vs : List ℕ) (rows : List (Row (List ℕ))) : Type 0 where
   pub live : is_live u rows ≡ true
   pub there : (name : List ℕ)

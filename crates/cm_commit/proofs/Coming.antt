@@ -1,4 +1,4 @@
--- Which groups may come next, told by tests.
+-- Which groups may come next, by tests.
 -- For `take_group`.
 use Rattle.std.proofs.Common.{◌≡◌, ℕ, ◌+◌, ◌^◌, ◌≤◌, Bool, true, false, List, [], length, sym, ◌∙◌}
 use Rattle.std.proofs.Common.{arith}
@@ -13,7 +13,7 @@ use Rattle.cm_commit.specs.Offers.{MayCome}
 use Rattle.cm_commit.specs.Joining.{may_join, AllMoveThem}
 use Rattle.cm_commit.proofs.Joins.{joins_where, may_where, moves_where}
 
--- it begins where the commands end
+-- it begins one past the last command
 abbrev pub goes_on : ℕ → Handed → Bool
 goes_on number group = group.first == number + 1
 
@@ -24,7 +24,7 @@ module _ (sizes : Sizes) (number : ℕ) (rows : List (Row (List ℕ))) (group : 
   pub ends : IsGroup group → goes_on number group ≡ true → number + length group.entries ≤ 2 ^ 63
   ends is on = omega (arith, is.numbers, begins on)
 
-  -- where it doesn't, it may not come
+  -- if it doesn't, it may not come
   pub stays_out : goes_on number group ≡ false
       → IsTrue false ↔ MayCome sizes rows number group
   stays_out on = (
@@ -32,7 +32,7 @@ module _ (sizes : Sizes) (number : ℕ) (rows : List (Row (List ℕ))) (group : 
     λ come. sym on ∙ eq-eqb group.first (number + 1) come.begins,
   )
 
-  -- where it does, it may come exactly where its entries may join, and carry the records that move
+  -- if it does, it may come exactly if its entries may join, and carry the records that move
   pub comes : IsGeometry sizes → AreCacheRows words_show sizes number rows → IsGroup group
       → goes_on number group ≡ true → (joins moves : Bool)
       → joins ≡ may_join sizes rows number group.entries
@@ -52,7 +52,7 @@ module _ (sizes : Sizes) (number : ℕ) (rows : List (Row (List ℕ))) (group : 
         (them.1 (moves_where sizes number rows group.entries cache come.entries)),
   )
 
-  -- where they may not join, it may not come
+  -- if they may not join, it may not come
   pub comes_not : AreCacheRows words_show sizes number rows → (joins : Bool)
       → joins ≡ may_join sizes rows number group.entries → joins ≡ false
       → IsTrue joins ↔ MayCome sizes rows number group

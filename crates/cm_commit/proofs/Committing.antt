@@ -1,4 +1,4 @@
--- What a group that is taken makes of what a committer keeps.
+-- What taking a group does to what a committer keeps.
 -- For `Committer::advance`, `may_join` and others.
 use Rattle.std.proofs.Common.{◌≡◌, ℕ, ◌+◌, ◌*◌, ◌^◌, ◌≤◌, inl, inr, Bool, true, false, cond, List}
 use Rattle.std.proofs.Common.{[], ◌∷◌, ◌++◌, length, None, is_none, refl, ap, subst, arith}
@@ -19,7 +19,7 @@ use Rattle.cm_layout.specs.declared.entry.Entry.TheVariants as entry
 use Rattle.cm_layout.specs.Names.{unload_limit}
 use Rattle.cm_layout.specs.Slots.{FitsEntry}
 use Rattle.cm_layout.specs.Offsets.{root_size}
-use Rattle.cm_layout.specs.declared.relocation.Move.{Move}
+use Rattle.cm_layout.specs.declared.move_entry.Move.{Move}
 use Rattle.cm_layout.specs.Rows.{bare, numbers_in, rows_after, without_loader, without_loaders}
 use Rattle.cm_layout.specs.Rows.{is_of, moved}
 use Rattle.cm_layout.specs.Rows.{used_words, kept_on}

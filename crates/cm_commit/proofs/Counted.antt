@@ -19,7 +19,7 @@ use Rattle.cm_commit.specs.Keeps.{AreCounted}
 use Rattle.cm_commit.specs.Offers.{HasOwn}
 use Rattle.cm_commit.proofs.Held.{HoldRows}
 
--- records that stand in their places have as many words
+-- records that are in their places have as many words
 pub counted-held : (sizes : Sizes) (contents : List ℕ) (rows : List (Row (List ℕ)))
     → HoldRows sizes contents rows → AreCounted rows
 counted-held sizes contents [] held = tt
@@ -105,7 +105,7 @@ kept-words c (Class r words ∷ rows) counted =
         let one : used_words c (Class r words ∷ []) ≡ 0 = rw e refl in
         omega (arith, used-append c (Class r words ∷ []) rows, one, rest)
 
--- they are no more than the rows
+-- a chunk has no more records than there are rows
 pub kept-few : {P : Type 0} (c : Chunk) (rows : List (Row P)) → length (kept_on c rows) ≤ length
     rows
 kept-few c [] = omega arith

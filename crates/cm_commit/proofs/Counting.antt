@@ -11,7 +11,7 @@ use Rattle.cm_layout.specs.Frames.{BareRow}
 use Rattle.cm_guards.specs.Stages.{calls_left}
 use Rattle.cm_guards.proofs.{calls_left-append}
 use Rattle.cm_group.specs.Groups.{Carried, Handed, entries_in}
-use Rattle.cm_commit.specs.declared.journal.Journal.{Journal}
+use Rattle.cm_commit.specs.declared.journal_end.JournalEnd.{JournalEnd}
 use Rattle.cm_commit.specs.declared.step.CommitStep.TheVariants as step
 use Rattle.cm_commit.specs.declared.step.CheckpointStep.{CheckpointStep}
 use Rattle.cm_commit.specs.declared.step.CheckpointStep.TheVariants as checkpoint
@@ -33,7 +33,7 @@ writes-count sizes writes =
     length-map writes (λ (w : Place × List ℕ). place_write sizes w.0 w.1)
 
 -- how many calls of a group are left while it is written
-pub calls_write : (j : Journal) (group : Handed) (roots from : ℕ)
+pub calls_write : (j : JournalEnd) (group : Handed) (roots from : ℕ)
     → calls_left (stages_at j group (step.Write roots from))
     ≡ roots_of_entries (entries_in group.entries) - roots
     + length (drop from (all_writes group.entries)) + 4
@@ -51,7 +51,7 @@ calls_write j group roots from =
       root-count j.geometry roots more,
     )
 
--- and before its first call
+-- how many are left before its first call
 group_counts : (sizes : Sizes) (half : Half) (slot n roots : ℕ) (carried : List Carried)
     → calls_left (plan_at sizes half slot n roots carried)
     ≡ 4 + (roots_of_entries (entries_in carried) - roots) + length (all_writes carried)
@@ -68,7 +68,7 @@ group_counts sizes half slot n roots carried =
       root-count sizes roots more,
     )
 
-checkpoint_counts : (j : Journal) (rows : List BareRow) → calls_left (checkpoint_of j rows) ≡ 6
+checkpoint_counts : (j : JournalEnd) (rows : List BareRow) → calls_left (checkpoint_of j rows) ≡ 6
 checkpoint_counts j rows = by_test j.other_open
   where
     by_test : (t : Bool)
@@ -76,8 +76,8 @@ checkpoint_counts j rows = by_test j.other_open
     by_test true = refl
     by_test false = refl
 
--- with a checkpoint where there is one
-pub plan_counts : (j : Journal) (rows : List BareRow) (roots : ℕ) (carried : List Carried)
+-- how many calls a group takes, with a checkpoint if there is one
+pub plan_counts : (j : JournalEnd) (rows : List BareRow) (roots : ℕ) (carried : List Carried)
     → calls_left (plan_of j rows roots carried)
     ≡ 4 + (roots_of_entries (entries_in carried) - roots)
     + length (all_writes carried) + cond (is_due j carried) 6 0
@@ -107,8 +107,8 @@ pub plans_have_steps : PlansHaveSteps
 plans_have_steps c len carried =
     plan_counts (journal_of c) (bare c.rows) (whole_roots c.sizes len) carried
 
--- of a checkpoint alone
-pub checkpoint_calls : (j : Journal) (rows : List BareRow) (at : CheckpointStep)
+-- how many calls of a checkpoint are left
+pub checkpoint_calls : (j : JournalEnd) (rows : List BareRow) (at : CheckpointStep)
     → calls_left (checkpoint_left j rows at) ≡ elim at [
       | checkpoint.Shut ↦ 6
       | checkpoint.SyncShut ↦ 5

@@ -1,4 +1,4 @@
--- The records of a group, written one after another: those of all rows after it stand in their
+-- The records of a group, written one after another: the records of all rows after it are in their
 -- places, and nothing that is committed is touched.
 -- For `Committer::advance`, `Committer::images`, `Committer::offer` and others.
 use Rattle.std.proofs.Common.{◌≡◌, ℕ, ◌+◌, ◌≤◌}
@@ -35,7 +35,7 @@ use Rattle.cm_commit.proofs.Rights.{AreKept, kept-after, rule-filled}
 
 -- ---- an entry
 
--- what an entry's record leaves: no fewer bytes, and the rows after it in their places
+-- what an entry's record leaves: no fewer bytes, and the rows' records after it in their places
 pub record Stand (sizes : Sizes) (rows : List (Row (List ℕ))) (old new : List ℕ) : Type 0 where
   pub longer : length old ≤ length new
   pub held : HoldRows sizes new rows

@@ -1,4 +1,4 @@
--- Entries that are applied with the records that they carry.
+-- Entries applied with the records that they carry.
 -- For `fill_all`.
 use Rattle.std.proofs.Common.{◌≡◌, ℕ, ◌+◌, ◌-◌, ◌<◌, ◌≤◌, true, cond, List, length, drop}
 use Rattle.std.proofs.Common.{get_or, Option, Some, None, is_none, refl, sym, ap, subst, ◌∙◌, arith}

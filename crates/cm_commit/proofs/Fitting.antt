@@ -1,4 +1,4 @@
--- What entries have that keep the rules.
+-- What holds of entries that keep the rules.
 -- For `are_new`, `have_one_name`, `is_absent` and others.
 use Rattle.std.proofs.Common.{◌≡◌, ℕ, ◌+◌, ◌^◌, ◌<◌, ◌≤◌, Bool, true, false, cond, List, []}
 use Rattle.std.proofs.Common.{◌∷◌, length, Some, None, inl, inr, refl, sym, subst, arith, eqb}
@@ -16,7 +16,7 @@ use Rattle.cm_layout.specs.declared.row.Row.TheVariants.{Loader, Class}
 use Rattle.cm_layout.specs.declared.entry.Entry.{Entry}
 use Rattle.cm_layout.specs.declared.entry.Entry.TheVariants as entry
 use Rattle.cm_layout.specs.Names.{is_loader_name, is_visible, name_limit, unload_limit}
-use Rattle.cm_layout.specs.declared.relocation.Move.{Move}
+use Rattle.cm_layout.specs.declared.move_entry.Move.{Move}
 use Rattle.cm_layout.specs.Slots.{FitsEntry, FitsClass, FitsMove, FitsChunk}
 use Rattle.cm_layout.specs.Rows.{name_of, number_of, numbers_in, kept_on}
 use Rattle.cm_layout.specs.Rules.{broken_rule, broken_of, is_live, are_live, differ, has_room}
@@ -41,7 +41,7 @@ none_there [] own = refl
 none_there (words ∷ records) own =
     absurd (omega (arith, eqb-true (length (words ∷ records)) 0 own))
 
--- but for the records that move
+-- an entry carries what it needs, if a move carries the right records
 pub has_one : (rows : List (Row (List ℕ))) (e : Entry (List ℕ)) (moved : List (List ℕ))
     → has_own e moved ≡ true → MovesRight rows e moved → HasRecords rows e moved
 has_one rows (entry.Live (Loader r)) moved own moves = (tt, none_there moved own)

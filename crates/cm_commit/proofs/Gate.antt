@@ -1,5 +1,5 @@
--- The byte of a group's gate: with any other byte than the open gate's what was committed stands
--- there, with that one what is committed after the group.
+-- The byte of a group's gate: with any byte but the open gate's, the contents show what was
+-- committed before; with that one, what is committed after the group.
 -- For `Committer::offer`, `groups_turn`.
 use Rattle.std.proofs.Common.{◌≡◌, ◌≢◌, ℕ, suc, ◌+◌, ◌<◌, ◌≤◌, ◌⊎◌, inl, inr, List, ◌∷◌}
 use Rattle.std.proofs.Common.{◌++◌, length, take, drop, get_or, Some, None, sym, ap, subst, ◌∙◌}
@@ -36,7 +36,7 @@ pub part-behind : (at n gate b : ℕ) (xs : List ℕ) → gate < at
     → part at n (set xs gate b) ≡ part at n xs
 part-behind at n gate b xs lt = ap (take n) (drop-set-lt at xs gate b lt)
 
--- the byte, and what stands behind it
+-- the byte, and what follows it
 pub part-gate : (gate n b : ℕ) (xs : List ℕ) → gate < length xs
     → part gate (suc n) (set xs gate b) ≡ b ∷ part (gate + 1) n xs
 part-gate gate n b xs inside = ap (take (suc n)) (drop-set xs gate b inside)
@@ -69,7 +69,7 @@ other-set at None gate b xs apart shut = λ is_open.
 other-set at (Some head) gate b xs (inl before) there = part-before at 64 gate b xs before ∙ there
 other-set at (Some head) gate b xs (inr behind) there = part-behind at 64 gate b xs behind ∙ there
 
--- the gate lies in the half, behind what is used
+-- the gate lies in the half, after what is used
 pub record IsGate (sizes : Sizes) (f : Framing) (gate : ℕ) : Type 0 where
   pub lawful : IsGeometry sizes
   pub is : gate ≡ half_at sizes f.counting + used_size f
@@ -112,7 +112,7 @@ stays_shut sizes f rows gate b base g inside shut m =
       records = records-gate sizes f rows gate b base g m.records;
     }
 
--- the group stands behind the gate, and the byte behind it is shut
+-- the group follows the gate, and the byte after the group is shut
 pub record IsReady (sizes : Sizes) (f next : Framing) (rows : List (Row (List ℕ))) (gate n : ℕ)
     (behind base : List ℕ) : Type 0 where
   pub counting : next.counting ≡ f.counting

@@ -13,12 +13,12 @@ use Rattle.cm_layout.specs.declared.row.Row.TheVariants.{Loader, Class}
 use Rattle.cm_layout.specs.Offsets.{half_size, roots_at}
 use Rattle.cm_layout.specs.Rows.{classes_in, bare}
 use Rattle.cm_layout.specs.Frames.{LiveRowsKeep, number_at_end}
-use Rattle.cm_layout.specs.Framing.{Framing, IsRight, Range, guards, needs, used_size}
+use Rattle.cm_layout.specs.Framing.{Framing, IsRightFraming, Range, guards, needs, used_size}
 use Rattle.cm_layout.specs.Framing.{other_half, older_size, record_ranges, open_half}
 use Rattle.cm_layout.proofs.{agreement_matches, live_rows_stay, classes-bare}
 use Rattle.cm_guards.specs.Guards.{Guards, IsBounded}
 use Rattle.cm_commit.specs.Committed.{Committed}
-use Rattle.cm_commit.specs.Guarding.{guard_of, Shows}
+use Rattle.cm_commit.specs.Guarding.{guard_of, ContentsShow}
 use Rattle.cm_commit.proofs.Ranges.{AreWithin, agree, bounded, half_ends}
 use Rattle.cm_commit.proofs.Places.{IsInside, AreStacked, are_stacked, ends_in_root}
 
@@ -58,19 +58,20 @@ end_size a b le = by_test (nat_lt a b) refl
 -- ---- rows of a framing that is right
 
 pub rows_live : (sizes : Sizes) (f : Framing) (rows : List (Row (List ℕ))) (n : ℕ)
-    → IsRight sizes f rows n → LiveRowsKeep sizes n [] (bare rows)
+    → IsRightFraming sizes f rows n → LiveRowsKeep sizes n [] (bare rows)
 rows_live sizes f rows n right =
     subst (λ (m : ℕ). LiveRowsKeep sizes m [] (bare rows)) (sym right.number_is)
     (subst (LiveRowsKeep sizes (number_at_end (open_half f)) []) (sym right.rows_are)
     (live_rows_stay sizes (open_half f) right.good))
 
 pub rows_stacked : (sizes : Sizes) (f : Framing) (rows : List (Row (List ℕ))) (n : ℕ)
-    → IsRight sizes f rows n → AreStacked sizes (bare rows)
+    → IsRightFraming sizes f rows n → AreStacked sizes (bare rows)
 rows_stacked sizes f rows n right =
     are_stacked sizes n (bare rows) (rows_live sizes f rows n right)
 
 pub rows_inside : (sizes : Sizes) (f : Framing) (rows : List (Row (List ℕ))) (n : ℕ)
-    → IsRight sizes f rows n → (r : ClassRow) → Among r (classes_in rows) → IsInside sizes r.place
+    → IsRightFraming sizes f rows n → (r : ClassRow) → Among r (classes_in rows)
+    → IsInside sizes r.place
 rows_inside sizes f rows n right r m =
     (rows_stacked sizes f rows n right).each r
     (subst (λ (l : List ClassRow). Among r l) (sym (classes-bare rows)) m)
@@ -78,7 +79,7 @@ rows_inside sizes f rows n right r m =
 -- ---- what is guarded
 
 pub guards_within : (sizes : Sizes) (f : Framing) (rows : List (Row (List ℕ))) (n : ℕ)
-    → IsRight sizes f rows n → AreWithin (needs sizes rows) (guards sizes f rows)
+    → IsRightFraming sizes f rows n → AreWithin (needs sizes rows) (guards sizes f rows)
 guards_within sizes f rows n right =
     let roots = needs_roots sizes rows in
     let here = half_ends sizes f.counting in
@@ -98,14 +99,14 @@ guards_within sizes f rows n right =
       ),
     )
 
-pub guard_bounded : (c : Committed) → IsRight c.sizes c.framing c.rows c.number
+pub guard_bounded : (c : Committed) → IsRightFraming c.sizes c.framing c.rows c.number
     → IsBounded (guard_of c)
 guard_bounded c right i guarded =
     bounded (needs c.sizes c.rows) (guards c.sizes c.framing c.rows)
     (guards_within c.sizes c.framing c.rows c.number right) i guarded
 
-pub guarded : (c : Committed) → IsRight c.sizes c.framing c.rows c.number
-    → Guards (guard_of c) (Shows c)
+pub guarded : (c : Committed) → IsRightFraming c.sizes c.framing c.rows c.number
+    → Guards (guard_of c) (ContentsShow c)
 guarded c right = record {
   carries = λ a b long agrees shows.
       agreement_matches c.sizes c.framing c.rows a b agrees.long

@@ -1,4 +1,4 @@
--- Records that stand in their places, while others are written.
+-- Records that are in their places, while others are written.
 -- For `Committer::advance`, `Committer::images`, `Committer::offer` and others.
 use Rattle.std.proofs.Common.{◌≡◌, ℕ, ◌+◌, ◌*◌, ◌≤◌, inl, inr, Bool, true, false, cond}
 use Rattle.std.proofs.Common.{List, [], ◌∷◌, ◌++◌, length, take, drop, get_or, refl, sym, ap}
@@ -19,7 +19,7 @@ use Rattle.cm_layout.specs.Framing.{part, needs}
 use Rattle.cm_commit.proofs.Ranges.{part_same}
 use Rattle.cm_commit.proofs.Places.{IsInside, ends_in_root}
 
--- the rows' records stand in the contents
+-- the rows' records are in the contents
 abbrev pub HoldRows : Sizes → List ℕ → List (Row (List ℕ)) → Type 0
 HoldRows sizes contents rows = AllByRecursion (HoldsRow sizes (drop (roots_at sizes) contents)) rows
 
@@ -99,7 +99,7 @@ hold-without-all sizes contents (u ∷ us) rows held =
     hold-without-all sizes contents us (without_loader u rows)
     (hold-without sizes contents u rows held)
 
--- rows that stand there need no more bytes than there are
+-- rows whose records are there need no more bytes than there are
 pub needs-held : (sizes : Sizes) (contents : List ℕ) (rows : List (Row (List ℕ)))
     → roots_at sizes ≤ length contents → HoldRows sizes contents rows
     → needs sizes rows ≤ length contents
@@ -110,7 +110,7 @@ needs-held sizes contents (Class r words ∷ rows) roots held =
     let rest = needs-held sizes contents rows roots held.1 in
     omega (arith, rest, held.0.whole, roots, length-drop (roots_at sizes) contents)
 
--- ---- a record more
+-- ---- one more record
 
 pub holds-record : (sizes : Sizes) (contents : List ℕ) (r : ClassRow) (words : List ℕ)
     → length words ≡ r.place.words → root_at sizes (r.place.chunk.root + 1) ≤ length contents

@@ -1,4 +1,4 @@
--- Entries may join where tests on what is committed say so, and only there.
+-- Entries may join exactly if tests on what is committed say so.
 -- For `take_group`.
 use Rattle.std.proofs.Common.{◌≡◌, ℕ, ◌+◌, ◌^◌, ◌<◌, ◌≤◌, Bool, true, false, not, List, [], ◌∷◌}
 use Rattle.std.proofs.Common.{◌++◌, length, Option, Some, None, refl, sym, ap, subst, ◌∙◌, arith}
@@ -26,7 +26,7 @@ use Rattle.cm_group.specs.Groups.{Carried, entries_in}
 use Rattle.cm_commit.specs.Offers.{filled, HasRecords, carries_own, writes_apart}
 use Rattle.cm_commit.specs.Offers.{MayJoin, MayJoinAll}
 use Rattle.cm_commit.specs.Keeping.{keep_rules}
-use Rattle.cm_commit.specs.Joining.{makes_class, is_new_name, is_new, are_new, are_apart}
+use Rattle.cm_commit.specs.Joining.{makes_class, is_new_name, is_new, are_new, entries_are_apart}
 use Rattle.cm_commit.specs.Joining.{may_join, MovesThem, AllMoveThem}
 use Rattle.cm_commit.proofs.Committing.{own_all, rules_kept}
 use Rattle.cm_commit.proofs.Rights.{AreKept, kept-after, after-filled, rule-filled}
@@ -76,7 +76,7 @@ none_later sizes n rows u name kept lt =
 
 -- ---- names of classes
 
--- What is committed and the entries before tell the class names of the loaders that live.
+-- The class names of live loaders follow from what is committed and the entries before.
 pub record TellsNames (committed : List (Row (List ℕ))) (before : List Carried)
     (rows : List (Row (List ℕ))) (n : ℕ) : Type 0 where
   pub live : (u : ℕ) (name : List ℕ) → is_live u rows ≡ true
@@ -108,7 +108,7 @@ no_class committed before c u name none =
     ∙ (ap (λ (t : Bool). is_new_name committed before u name && not t) none
     ∙ sym (with_true (is_new_name committed before u name)))
 
--- once loaders are unloaded
+-- the same once loaders are unloaded
 names-left : (n : ℕ) (committed : List (Row (List ℕ))) (before : List Carried)
     (rows : List (Row (List ℕ))) (us : List ℕ) (c : Carried)
     → ((u : ℕ) (name : List ℕ) → makes_class u name c ≡ false)
@@ -278,7 +278,7 @@ pub joins_all : (sizes : Sizes) (n : ℕ) (committed : List (Row (List ℕ))) (b
     → n + length carried ≤ 2 ^ 63 → AreKept sizes n rows → TellsNames committed before rows n
     → TellsRecords committed before rows → AllMoveThem committed before carried
     → keep_rules sizes (bare rows) (n + 1) (entries_in carried) ≡ true
-    → list_all carries_own carried ≡ true → are_apart committed carried ≡ true
+    → list_all carries_own carried ≡ true → entries_are_apart committed carried ≡ true
     → are_new committed before carried ≡ true → MayJoinAll sizes committed rows n carried
 joins_all sizes n committed before rows [] g le kept tells told moves keep own apart new = tt
 joins_all sizes n committed before rows (c ∷ carried) g le kept tells told moves keep own apart
@@ -289,7 +289,7 @@ joins_all sizes n committed before rows (c ∷ carried) g le kept tells told mov
     (entries_in carried)) keep in
     let owns = and_parts (carries_own c) (list_all carries_own carried) own in
     let aparts = and_parts (writes_apart committed (bare_entry c.entry))
-    (are_apart committed carried) apart in
+    (entries_are_apart committed carried) apart in
     let news = and_parts (is_new committed before c.entry)
     (are_new committed (before ++ c ∷ []) carried) new in
     let none = none_is rule keeps.0 in
@@ -311,10 +311,10 @@ joins_all sizes n committed before rows (c ∷ carried) g le kept tells told mov
 
 pub all_apart : (sizes : Sizes) (committed rows : List (Row (List ℕ))) (n : ℕ)
     (carried : List Carried) → MayJoinAll sizes committed rows n carried
-    → are_apart committed carried ≡ true
+    → entries_are_apart committed carried ≡ true
 all_apart sizes committed rows n [] joins = refl
 all_apart sizes committed rows n (c ∷ carried) joins =
-    and_from (writes_apart committed (bare_entry c.entry)) (are_apart committed carried)
+    and_from (writes_apart committed (bare_entry c.entry)) (entries_are_apart committed carried)
     (apart-bare committed c.entry ∙ joins.0.apart)
     (all_apart sizes committed (rows_after rows (filled c)) (n + 1) carried joins.1)
 
@@ -350,7 +350,7 @@ joins_where sizes n rows carried g le cache may moves =
     let kept = cache_kept sizes n rows cache in
     let own = list_all carries_own carried in
     let keep = keep_rules sizes (bare rows) (n + 1) (entries_in carried) in
-    let apart = are_apart rows carried in
+    let apart = entries_are_apart rows carried in
     let new = are_new rows [] carried in
     let one = and_parts own (keep && (apart && new)) may in
     let two = and_parts keep (apart && new) one.1 in
@@ -365,7 +365,7 @@ may_where sizes n rows carried cache joins =
     let kept = cache_kept sizes n rows cache in
     let own = list_all carries_own carried in
     let keep = keep_rules sizes (bare rows) (n + 1) (entries_in carried) in
-    let apart = are_apart rows carried in
+    let apart = entries_are_apart rows carried in
     let new = are_new rows [] carried in
     and_from own (keep && (apart && new)) (own_all sizes rows rows n carried joins)
     (and_from keep (apart && new) (rules_kept sizes rows rows n carried joins)

@@ -1,4 +1,4 @@
--- Where the journal goes on: what is committed says it, and where a group goes.
+-- Where the journal continues, by what is committed, and where a group is written.
 -- For `Committer::advance`, `Committer::offer`, `target_of` and others.
 use Rattle.std.proofs.Common.{◌≡◌, ◌+◌, Bool, true, false, cond, List, [], ◌∷◌, ◌++◌, refl}
 use Rattle.std.proofs.Common.{arith}
@@ -6,7 +6,7 @@ use Rattle.cm_layout.specs.Rows.{bare, slots_of_rows, slots_of_entries}
 use Rattle.cm_layout.specs.Frames.{BareRow, BareEntry}
 use Rattle.cm_layout.specs.Framing.{Framing}
 use Rattle.cm_group.specs.Groups.{Carried}
-use Rattle.cm_commit.specs.declared.journal.Journal.{Journal}
+use Rattle.cm_commit.specs.declared.journal_end.JournalEnd.{JournalEnd}
 use Rattle.cm_commit.specs.Committed.{Committed, journal_of, end_slot, with_group, slots_of_groups}
 use Rattle.cm_commit.specs.Checkpoints.{is_due, renewed_journal, target_of, ready_for}
 use Rattle.cm_commit.specs.Checkpoints.{renewed_framing}
@@ -16,7 +16,7 @@ use Rattle.cm_commit.proofs.Guards.{rows_live}
 use Rattle.cm_commit.proofs.NewHalves.{rows_few, number_few}
 use Rattle.cm_commit.proofs.Slots.{live_count}
 
--- the half that a checkpoint writes has room for them
+-- the half that a checkpoint writes has room for the rows
 pub half_fits : (c : Committed) → IsCommitted c → FitsHalf (journal_of c) (bare c.rows)
 half_fits c right =
     let head = right.good.head in
@@ -30,9 +30,9 @@ half_fits c right =
       number = omega (arith, number);
     }
 
--- ---- where a group goes
+-- ---- where a group is written
 
--- in the halves that have room for it
+-- a group is written where the halves that have room for it end
 pub target_is : (c : Committed) (carried : List Carried)
     → target_of (journal_of c) (bare c.rows) carried ≡ journal_of (ready_for c carried)
 target_is c carried = by_test (is_due (journal_of c) carried)
@@ -46,8 +46,8 @@ target_is c carried = by_test (is_due (journal_of c) carried)
         λ i. record (journal_of (record c { framing = renewed_framing c })) { end = end i }
     by_test false = refl
 
--- of the same region, behind the same command
-pub target_stays : (j : Journal) (rows : List BareRow) (carried : List Carried)
+-- a group is written in the same region, after the same command
+pub target_stays : (j : JournalEnd) (rows : List BareRow) (carried : List Carried)
     → ((target_of j rows carried).geometry ≡ j.geometry)
     × ((target_of j rows carried).number ≡ j.number)
 target_stays j rows carried = by_test (is_due j carried)
@@ -64,7 +64,7 @@ slots-append : (groups : List (List BareEntry)) (group : List BareEntry)
 slots-append [] group = omega arith
 slots-append (g ∷ groups) group = omega (arith, slots-append groups group)
 
--- and behind the group
+-- the end of the half after the group
 pub end_after : (f : Framing) (group : List BareEntry)
     → end_slot (with_group f group)
     ≡ end_slot f + 1 + slots_of_entries group

@@ -1,4 +1,4 @@
--- What crates above may cite of these proofs is what `pub use` passes on; all else is private.
+-- Crates above may cite only those of these proofs that `pub use` passes on; all else is private.
 mod Counting
 mod Slots
 mod Ranges
@@ -41,14 +41,14 @@ mod Joins
 mod Testing
 mod Coming
 mod Offering
--- The slots of the half that counts, and of a group more.
+-- The slots of the half that counts, with one more group.
 pub use Slots.{end_is}
--- Where records lie that keep the rules: inside their chunks, one behind another.
+-- Where the records of rows that keep the rules lie: inside their chunks, one after another.
 pub use Places.{inside, ends_in_root}
--- Contents that match what is committed stand for its cache.
+-- Contents that match what is committed denote its cache.
 pub use Shown.{shows_cache}
--- How many whole roots a file has that ends where a root does.
+-- How many whole roots a file has that ends at the end of a root.
 pub use Trims.{whole_used}
--- A move that keeps the rules, and which chunk was a loader's last before it.
+-- A move that keeps the rules, and which chunk was a loader's last one before it.
 pub use MovedRecords.{MoveKeeps, keeps-move}
 pub use MovedOn.{last-before, turned}

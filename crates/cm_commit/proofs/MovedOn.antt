@@ -1,4 +1,4 @@
--- The records on a loader's last chunk, told by what is committed and by the entries before.
+-- The records on a loader's last chunk, by what is committed and by the entries before.
 -- For `take_group`.
 use Rattle.std.proofs.Common.{◌≡◌, ℕ, ◌+◌, ◌≤◌, Bool, true, false, cond, List, [], ◌∷◌, ◌++◌, inl}
 use Rattle.std.proofs.Common.{inr, Option, Some, None, refl, sym, ap, subst, ◌∙◌, arith, eqb}
@@ -12,7 +12,7 @@ use Rattle.cm_pool.specs.Geometry.{Sizes}
 use Rattle.cm_pool.specs.Lists.{Among}
 use Rattle.cm_pool.proofs.{same_chunk-true, same_chunk-itself, meets-itself}
 use Rattle.cm_layout.specs.declared.class_row.ClassRow.{ClassRow}
-use Rattle.cm_layout.specs.declared.relocation.Move.{Move}
+use Rattle.cm_layout.specs.declared.move_entry.Move.{Move}
 use Rattle.cm_layout.specs.declared.row.Row.{Row}
 use Rattle.cm_layout.specs.declared.row.Row.TheVariants.{Loader, Class}
 use Rattle.cm_layout.specs.declared.entry.Entry.{Entry}
@@ -48,7 +48,7 @@ turned c d differ = by_test (same_chunk d c) refl
         (sym (same_chunk-true d c e)) (same_chunk-itself c)) differ)
     by_test false e = refl
 
--- what one entry more makes of the records
+-- what one more entry does to the records
 pub after-one : (c : Chunk) (records : List (List ℕ)) (before : List Carried) (k : Carried)
     → records_after c records (before ++ k ∷ [])
     ≡ records_then c (records_after c records before) k.entry k.moved
@@ -117,7 +117,7 @@ module _ {P : Type 0} where
           (last_chunk u (classes_in rows)) (eqb r.loader u) r.place.chunk r.place.chunk rest
           (ap (λ (s : Bool). cond s to r.place.chunk) e)
 
-  -- the last chunk after a move is the new one, or was it before
+  -- the last chunk after a move is the new one, or it was the last before
   pub record Stayed (u : ℕ) (c from : Chunk) (rows : List (Row P)) : Type 0 where
     pub last : is_last_chunk u c rows ≡ true
     pub other : same_chunk from c ≡ false
@@ -146,7 +146,7 @@ module _ {P : Type 0} where
                 other = turned c from (subst (λ (x : Chunk). same_chunk x from ≡ false) on e);
               })
 
--- the rows without a loader, with nothing kept
+-- the rows without a loader, and without their records
 bare-without : (u : ℕ) (rows : List (Row (List ℕ)))
     → bare (without_loader u rows) ≡ without_loader u (bare rows)
 bare-without u rows = after-bare rows (entry.Unload (record { loader = u }))
@@ -160,7 +160,7 @@ last-stays v u rows other =
     ∙ last-without v u (bare rows) other
     ∙ ap (last_chunk v) (classes-bare rows)
 
--- rows that are apart stay so without a loader
+-- rows whose records are apart stay so without a loader
 apart-without : (sizes : Sizes) (n u : ℕ) (rows : List (Row (List ℕ)))
     → AreApart (classes_in (bare rows)) → is_live u (bare rows) ≡ true
     → AreApart (classes_in (bare (without_loader u rows)))
@@ -168,10 +168,10 @@ apart-without sizes n u rows apart live =
     subst (λ (l : List BareRow). AreApart (classes_in l)) (sym (bare-without u rows))
     (entry-apart sizes (bare rows) n (entry.Unload (record { loader = u })) apart (rw live refl))
 
--- ---- whose a chunk is
+-- ---- which loader a chunk belongs to
 
 module _ (rows : List (Row (List ℕ))) (apart : AreApart (classes_in (bare rows))) where
-  -- a chunk has one loader
+  -- a chunk belongs to one loader
   one-owner : (r s : ClassRow) → Among r (classes_in rows) → Among s (classes_in rows)
       → r.place.chunk ≡ s.place.chunk → r.loader ≡ s.loader
   one-owner r s m k same =
@@ -179,7 +179,7 @@ module _ (rows : List (Row (List ℕ))) (apart : AreApart (classes_in (bare rows
       (subst (λ (l : List ClassRow). Among s l) (sym (classes-bare rows)) k)
       (subst (λ (d : Chunk). Meets r.place.chunk d) same (meets-itself r.place.chunk))).1
 
-  -- that of its last class
+  -- it is the loader of the chunk's last class
   owner-of : (u : ℕ) (c : Chunk) (s : ClassRow) → is_last_chunk u c rows ≡ true
       → Among s (classes_in rows) → s.place.chunk ≡ c → s.loader ≡ u
   owner-of u c s last m on =
@@ -251,9 +251,9 @@ none-left u (Class r p ∷ rows) s m own =
         no_both (eq-eqb r.loader u (sym (ap (λ (d : ClassRow). d.loader) is) ∙ own)) e
     by_test false e rest (inr m) = rest m
 
--- ---- what is told
+-- ---- what follows from the entries
 
--- What is committed and the entries before tell the records on the last chunks of loaders.
+-- The records on the last chunks of loaders follow from what is committed and the entries before.
 pub record TellsRecords (committed : List (Row (List ℕ))) (before : List Carried)
     (rows : List (Row (List ℕ))) : Type 0 where
   pub each : (u : ℕ) (c : Chunk) → is_last_chunk u c rows ≡ true
@@ -264,7 +264,7 @@ records_first rows = record {
   each = λ u c last. ap (λ (t : Bool). cond t (kept_on c rows) []) last;
 }
 
--- They tell as much once a loader is unloaded,
+-- They still do once a loader is unloaded,
 without-tells : (committed : List (Row (List ℕ))) (before : List Carried)
     (rows : List (Row (List ℕ))) (u : ℕ) → AreApart (classes_in (bare rows))
     → TellsRecords committed before rows → TellsRecords committed before (without_loader u rows)
@@ -357,7 +357,7 @@ module _ (sizes : Sizes) (n : ℕ) (committed : List (Row (List ℕ))) (before :
                 (found.3 ∙ sym on) (same_chunk-itself found.0.place.chunk)) none)
           ]
 
-  -- a class more on the chunk
+  -- one more class on the chunk
   adds-one : (u : ℕ) (c : Chunk) (r : ClassRow) (words : List ℕ) (moved : List (List ℕ))
       → has_place rows r ≡ true → same_chunk r.place.chunk c ≡ true → eqb r.loader u ≡ true
       → records_then c (records_on committed before u c) (entry.Live (Class r words)) moved
@@ -510,7 +510,7 @@ records_next sizes n committed before rows (entry.Move e) moved_records kept kee
 
 -- ---- the records that a move carries
 
--- told by what is committed and the entries before, or by the rows
+-- the records that a move carries, by what is committed and the entries before, or by the rows
 pub moves-right : (sizes : Sizes) (n : ℕ) (committed : List (Row (List ℕ)))
     (before : List Carried) (rows : List (Row (List ℕ))) (e : Entry (List ℕ))
     (moved_records : List (List ℕ))

@@ -1,5 +1,4 @@
--- What a move writes: each record inside the new chunk, behind the one before it, and apart from
--- all
+-- What a move writes: each record inside the new chunk, after the one before it, and apart from all
 -- that rows use.
 -- For `Committer::advance`, `Committer::images`, `Committer::offer` and others.
 use Rattle.std.proofs.Common.{◌≡◌, ℕ, ◌+◌, ◌-◌, ◌*◌, ◌^◌, ◌<◌, ◌≤◌, inl, inr, Bool, true, false}
@@ -19,7 +18,7 @@ use Rattle.cm_pool.specs.declared.chunk.Chunk.{Chunk}
 use Rattle.cm_pool.specs.declared.place.Place.{Place}
 use Rattle.cm_pool.specs.Lists.{Among}
 use Rattle.cm_layout.specs.declared.class_row.ClassRow.{ClassRow}
-use Rattle.cm_layout.specs.declared.relocation.Move.{Move}
+use Rattle.cm_layout.specs.declared.move_entry.Move.{Move}
 use Rattle.cm_layout.specs.declared.entry_rule.EntryRule.TheVariants.{OnChunks}
 use Rattle.cm_layout.specs.declared.row.Row.{Row}
 use Rattle.cm_layout.specs.declared.row.Row.TheVariants.{Class}
@@ -113,7 +112,7 @@ move-offsets to offset (words ∷ records) fits = (
   move-offsets to (offset + length words) records (omega (arith, fits)),
 )
 
--- ---- what stands after them
+-- ---- the contents after them
 
 module _ (sizes : Sizes) (to : Chunk) (lawful : is_chunk sizes to ≡ true) where
   abbrev Stands : List ℕ → ℕ → List ℕ → Type 0
@@ -123,7 +122,7 @@ module _ (sizes : Sizes) (to : Chunk) (lawful : is_chunk sizes to ≡ true) wher
   abbrev end : ℕ
   end = root_at sizes (to.root + 1)
 
-  -- one that is written behind a record leaves it
+  -- a record written after another leaves that one unchanged
   behind-leaves : (offset : ℕ) (words : List ℕ) (at : ℕ) (other contents : List ℕ)
       → offset + length words ≤ at → at + length other ≤ chunk_size to.order
       → end ≤ length contents → Stands contents offset words
@@ -163,7 +162,7 @@ module _ (sizes : Sizes) (to : Chunk) (lawful : is_chunk sizes to ≡ true) wher
       only : (d s : ClassRow) → Among d (s ∷ []) → (Q : ClassRow → Type 0) → Q s → Q d
       only d s m Q q = subst Q (sym (the d s m)) q
 
-  -- so do all that are written behind it
+  -- so do all records that are written after it
   all-leave : (offset : ℕ) (words : List ℕ) (at : ℕ) (records : List (List ℕ)) (contents : List ℕ)
       → offset + length words ≤ at → at + words_in records ≤ chunk_size to.order
       → end ≤ length contents → Stands contents offset words
@@ -179,7 +178,8 @@ module _ (sizes : Sizes) (to : Chunk) (lawful : is_chunk sizes to ≡ true) wher
       (omega (arith, fits)) (omega (arith, size, long))
       (behind-leaves offset words at other contents behind (omega (arith, fits)) long stands)
 
-  -- No fewer bytes than before, the rows in their old places, and each record in its new one.
+  -- No fewer bytes than before, the rows' records in their old places, and each record in its new
+  -- one.
   pub record Moves (rows : List (Row (List ℕ))) (offset : ℕ) (records : List (List ℕ))
       (old new : List ℕ) : Type 0 where
     pub longer : length old ≤ length new
@@ -218,7 +218,7 @@ module _ (sizes : Sizes) (to : Chunk) (lawful : is_chunk sizes to ≡ true) wher
 
 -- ---- all of a move
 
--- what a move leaves: no fewer bytes, and the rows after it in their places
+-- what a move leaves: no fewer bytes, and the rows' records after it in their places
 pub move-holds : (sizes : Sizes) (n : ℕ) (rows : List (Row (List ℕ))) (e : Move)
     (records : List (List ℕ)) (contents : List ℕ) → AreKept sizes n rows → MoveKeeps sizes rows e
     → AreCounted rows → records ≡ kept_on e.from rows → AllByRecursion AreTold records

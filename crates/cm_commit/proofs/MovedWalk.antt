@@ -1,4 +1,4 @@
--- The records on a chunk are looked for from the newest back.
+-- The search for the records on a chunk, from the newest entry back.
 -- For `are_kept`, `are_on`, `are_same` and others.
 use Rattle.std.proofs.Common.{◌≡◌, ℕ, zero, suc, ◌+◌, ◌<◌, Bool, true, false, cond, List, [], ◌∷◌}
 use Rattle.std.proofs.Common.{◌++◌, map, length, take, get_or, Option, Some, None, refl, sym, ap}
@@ -23,7 +23,7 @@ use Rattle.cm_commit.proofs.Testing.{classes-with}
 
 -- ---- lists
 
--- a list that ends in one has one end, and one rest
+-- a list that ends in one element has one last element, and one list before it
 pub one-end : {X : Type 0} (xs ys : List X) (x y : X) → xs ++ x ∷ [] ≡ ys ++ y ∷ []
     → (xs ≡ ys) × (x ≡ y)
 one-end [] [] x y e = (refl, cc)
@@ -37,14 +37,14 @@ one-end (z ∷ xs) (w ∷ ys) x y e =
     let both = one-end xs ys x y rest in
     ((λ i. first i ∷ both.0 i), both.1)
 
--- no list that ends in one is empty
+-- no list that ends in an element is empty
 pub not-empty : {X : Type 0} (xs : List X) (x : X) → [] ≡ xs ++ x ∷ [] → ⊥
 not-empty [] x e = absurd (cc)
 not-empty (z ∷ xs) x e = absurd (cc)
 
 -- ---- one step back
 
--- both end in the same record: they are one where their rests are
+-- both end in the same record: they are equal if what is before it is
 pub step-back : (records others left behind : List (List ℕ)) (last : List ℕ)
     → EndsIn records last left → others ≡ behind ++ last ∷ []
     → (records ≡ others) ↔ (left ≡ behind)
@@ -53,7 +53,7 @@ step-back records others left behind last ends is = (
   λ e. ends ∙ ap (λ (l : List (List ℕ)). l ++ last ∷ []) e ∙ sym is,
 )
 
--- only one of them does
+-- only one of them ends in this record
 pub no-step : (records others behind : List (List ℕ)) (last : List ℕ) → DoesntEndIn records last
     → others ≡ behind ++ last ∷ [] → records ≡ others → ⊥
 no-step records others behind last differs is e = differs behind (e ∙ is)

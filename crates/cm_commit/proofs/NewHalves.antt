@@ -1,5 +1,5 @@
 -- Halves that a checkpoint renews: what is committed is right in them, and a group that had no room
--- has some there.
+-- has room there.
 -- For `Committer::advance`, `Committer::offer`, `checkpoints_renew` and others.
 use Rattle.std.proofs.Common.{◌≡◌, ℕ, ◌+◌, ◌^◌, ◌<◌, ◌≤◌, Bool, true, false, cond, List, []}
 use Rattle.std.proofs.Common.{◌∷◌, ◌++◌, length, Some, None, refl, arith}
@@ -26,7 +26,7 @@ use Rattle.cm_commit.specs.Guarding.{IsCommitted}
 use Rattle.cm_commit.proofs.Slots.{end_is}
 use Rattle.cm_commit.proofs.Guards.{rows_live}
 
--- ---- live rows take half of the slots at most
+-- ---- live rows take at most half of the slots
 
 no_rule : (t : Bool) → cond t None (Some OnRows) ≡ None → t ≡ true
 no_rule true h = refl
@@ -105,8 +105,8 @@ number_few c right =
 
 -- ---- the renewed halves
 
--- An epoch may be one above the number: the head of a half that a file was made with, or moved over
--- to, is.
+-- An epoch may be one above the number: that of a half that a file was made with, or upgraded to,
+-- is.
 pub good_head : (c : Committed) → IsCommitted c → c.framing.head.epoch ≤ c.number + 1
     → IsGoodHead c.sizes (renewed_framing c).head
 good_head c right past =
@@ -152,8 +152,8 @@ right_renewed c right head =
       apart = right.apart;
     }
 
--- A group that has no room in the half that counts comes behind another one there, so that a
--- checkpoint may raise the epoch. It has room in the half that the checkpoint writes.
+-- A group that has no room in the half that counts comes after another one there, so a checkpoint
+-- may raise the epoch. The group has room in the half that the checkpoint writes.
 pub full_halves_renew : (c : Committed) (group : Handed) → IsCommitted c → IsGroup group
     → is_due (journal_of c) group.entries ≡ true
     → IsGoodHead c.sizes (renewed_framing c).head

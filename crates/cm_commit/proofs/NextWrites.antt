@@ -1,4 +1,4 @@
--- The next write of a group, and what is left behind it.
+-- The next write of a group, and what is left after it.
 -- For `write_next`, `write_slots`.
 use Rattle.std.proofs.Common.{◌≡◌, ℕ, zero, suc, ◌+◌, ◌-◌, ◌<◌, ◌≤◌, List, [], ◌∷◌, ◌++◌}
 use Rattle.std.proofs.Common.{drop, Some, None, refl, sym, ap, subst, ◌∙◌, arith}
@@ -79,7 +79,7 @@ module _ {D E : Type 0} (view : View D) (old new : D) where
       subst (λ (l : List Write). CallsOnce view
       (Store l ∷ behind) old new r) (sym e) wrote
 
-  -- the same call, with another value told
+  -- the same call, returning another value
   pub wrote_ok : {S T : Type 0} (w : Write) (x : S) (y : T)
       → MakesWrite {D = D} {T = S} {E = E} view w old new
       (Ok x)
@@ -114,7 +114,7 @@ module _ {D E : Type 0} (view : View D) (old new : D) where
     };
   }
 
-  -- the write, its place and bytes written otherwise
+  -- the same write, with its place and bytes expressed in another way
   pub wrote_as : {T : Type 0} (w v : Write) (r : Result T E) → v.at ≡ w.at → v.bytes ≡ w.bytes
       → MakesWrite view v old new r
       → MakesWrite view w old new r

@@ -17,12 +17,13 @@ use Rattle.cm_commit.specs.Committed.{Committed, journal_of}
 use Rattle.cm_commit.specs.Checkpoints.{ready_for, is_due, is_due_at, checkpoint_of, target_of}
 use Rattle.cm_commit.specs.GroupPlans.{plan_of, plan_at, whole_roots, roots_to_add, all_writes}
 use Rattle.cm_commit.specs.GroupPlans.{roots_of_entries}
-use Rattle.cm_commit.specs.Guarding.{Shows, Holds}
-use Rattle.cm_commit.specs.Keeps.{IsCommitter, IsIdle, IsBusy, IsAt, StandsBroken, roots_then}
+use Rattle.cm_commit.specs.Guarding.{ContentsShow, HoldsCommitted}
+use Rattle.cm_commit.specs.Keeps.{IsCommitter, IsIdle, IsBusy, StandsDuring, StandsBroken}
+use Rattle.cm_commit.specs.Keeps.{roots_then}
 use Rattle.cm_commit.specs.Keeps.{rows_then}
 use Rattle.cm_commit.specs.Laws.{TellsWords}
 use Rattle.cm_commit.specs.Offers.{rows_after_group, committed_after}
-use Rattle.cm_commit.specs.States.{Work, Storing, Trimming, CommitterState, Takes, with_taken}
+use Rattle.cm_commit.specs.States.{Work, Storing, Trimming, CommitterState, TakesGroup, with_taken}
 use Rattle.cm_commit.specs.States.{journal_at}
 use Rattle.cm_commit.specs.Trims.{roots_of_rows, trim_plan}
 use Rattle.cm_commit.proofs.Advancing.{some_behind}
@@ -33,13 +34,13 @@ use Rattle.cm_commit.proofs.Through.{groups_go_through}
 use Rattle.cm_commit.proofs.Trims.{trims_stand}
 use Rattle.cm_commit.proofs.With.{bare-with}
 
--- ---- the books
+-- ---- the live rows
 
 pub none_under_way : (o : Option Work) → is_some o ≡ false → o ≡ None
 none_under_way None e = refl
 none_under_way (Some work) e = absurd (cc)
 
--- before a group the next rows are those that are committed
+-- before a group the next rows are the committed ones
 pub next_before : {P : Type 0} (f : P → List ℕ) (sizes held : Sizes) (rows : List (Row P))
     (o : Option Work) (next : LiveRows (Unit {0})) → held ≡ sizes → o ≡ None
     → next ≡ record { sizes = sizes; rows = bare (rows_then (rows_with f rows) o) }
@@ -52,7 +53,7 @@ next_before f sizes held rows o next same none is =
     }) in
     before ∙ (λ k. record { sizes = held; rows = bare-with f rows k })
 
--- and once it is taken those after it
+-- once it is taken, they are those after it
 pub next_after : {P : Type 0} (f : P → List ℕ) (sizes held : Sizes) (rows : List (Row P))
     (carried : List Carried) (old new : LiveRows (Unit {0})) (t : Bool) → held ≡ sizes → t ≡ true
     → old ≡ record { sizes = held; rows = bare rows }
@@ -101,9 +102,10 @@ module _ {D : Type 0} (view : View D) (s : CommitterState D)
       roots_are = used_is;
       stands = subst (λ (b : Bool). StandsBroken b c c (root_at s.sizes used)
           (trim_plan s.sizes used) now (view.unsynced s.disk)) (sym sound)
-          (ready_stands (Holds c) (Shows c) (root_at s.sizes used) (trim_plan s.sizes used) now
-          (view.unsynced s.disk) idle.settled
-          (subst (λ (n : ℕ). IsReady (Holds c) (Shows c) (root_at s.sizes n)
+          (ready_stands (HoldsCommitted c) (ContentsShow c) (root_at s.sizes used)
+          (trim_plan s.sizes used) now
+          (view.unsynced s.disk) idle.durable
+          (subst (λ (n : ℕ). IsReady (HoldsCommitted c) (ContentsShow c) (root_at s.sizes n)
           (trim_plan s.sizes n) now) (sym used_is)
           (trims_stand c now i.right idle.shows).ready));
     };
@@ -117,7 +119,8 @@ module _ {D : Type 0} (view : View D) (s : CommitterState D)
 
       idle : IsIdle c roots s.broken now (view.unsynced s.disk)
       idle =
-          subst (λ (o : Option Work). IsAt c roots o s.left s.broken now (view.unsynced s.disk))
+          subst (λ (o : Option Work). StandsDuring c roots o s.left s.broken now
+          (view.unsynced s.disk))
           none
           i.at
 
@@ -136,14 +139,15 @@ module _ {D : Type 0} (view : View D) (s : CommitterState D)
   abbrev pub with_group_underway : CommitterState D
   with_group_underway = record s { underway = Some (Storing group); left = plan }
 
-  module _ (takes : Takes s group) (is : IsGroup group)
+  module _ (takes : TakesGroup s group) (is : IsGroup group)
       (tells : AllByRecursion TellsWords group.entries) where
     abbrev now : List ℕ
     now = view.contents s.disk
 
     idle : IsIdle before roots s.broken now (view.unsynced s.disk)
     idle =
-        subst (λ (o : Option Work). IsAt before roots o s.left s.broken now (view.unsynced s.disk))
+        subst (λ (o : Option Work). StandsDuring before roots o s.left s.broken now
+        (view.unsynced s.disk))
         takes.idle i.at
 
     same_plan : plan_of (journal_of before) (bare s.rows) (whole_roots s.sizes (length now))
@@ -158,14 +162,15 @@ module _ {D : Type 0} (view : View D) (s : CommitterState D)
     abbrev behind : List ℕ
     behind = gone_through plan now
 
-    stands : StagesStand (Holds before) (Shows after) (length behind) plan now
+    stands : StagesStand (HoldsCommitted before) (ContentsShow after) (length behind) plan now
         (view.unsynced s.disk)
     stands =
         let through = groups_go_through before group now i.right is takes.next i.newest tells
         idle.shows in
-        subst (λ (l : List Stage). StagesStand (Holds before) (Shows after)
+        subst (λ (l : List Stage). StagesStand (HoldsCommitted before) (ContentsShow after)
         (length (gone_through l now)) l now (view.unsynced s.disk)) same_plan
-        (ready_stands (Holds before) (Shows after) _ _ now (view.unsynced s.disk) idle.settled
+        (ready_stands (HoldsCommitted before) (ContentsShow after) _ _ now (view.unsynced s.disk)
+        idle.durable
         through.ready)
 
     some_plan : plan ≡ [] → ⊥

@@ -1,4 +1,4 @@
--- Where records lie that keep the rules: inside their chunks, one behind another.
+-- Where the records of rows that keep the rules lie: inside their chunks, one after another.
 -- For `Committer::advance`, `Committer::images`, `Committer::offer` and others.
 use Rattle.std.proofs.Common.{◌≡◌, ℕ, ◌+◌, ◌-◌, ◌*◌, ◌<◌, ◌≤◌, ◌⊎◌, inl, inr, true, List, []}
 use Rattle.std.proofs.Common.{◌∷◌, ◌++◌, refl, sym, ap, subst, ◌∙◌, arith, append_assoc, append-nil}
@@ -24,7 +24,7 @@ use Rattle.cm_layout.proofs.{used-append, begins_behind}
 
 -- ---- inside
 
--- the words lie in the chunk, and this in a root that the region can have
+-- the words lie in the chunk, and the chunk in a root that the region can have
 pub record IsInside (sizes : Sizes) (place : Place) : Type 0 where
   pub order : place.chunk.order ≤ sizes.top
   pub root : place.chunk.root < sizes.roots
@@ -49,7 +49,7 @@ inside sizes place lawful within =
       chunk = leb-true (c.at + chunk_size c.order) (chunk_size sizes.top) all.1;
     }
 
--- a record ends where its root does, or before
+-- a record ends at the end of its root, or before
 pub ends_in_root : (sizes : Sizes) (place : Place) → IsInside sizes place
     → record_at sizes place + 8 * place.words ≤ root_at sizes (place.chunk.root + 1)
 ends_in_root sizes place is = omega (arith, is.words, is.chunk)
@@ -58,9 +58,9 @@ pub begins_in_root : (sizes : Sizes) (place : Place)
     → root_at sizes place.chunk.root ≤ record_at sizes place
 begins_in_root sizes place = omega arith
 
--- ---- one behind another
+-- ---- one after another
 
--- each record ends before as many words as its chunk has in use
+-- each record ends within the words that its chunk has in use
 abbrev pub IsStacked : List BareRow → Type 0
 IsStacked rows =
     (r : ClassRow) → Among r (classes_in rows)
@@ -117,7 +117,7 @@ stacked-loader sizes pre row none are =
           omega (arith, before, used-append x.place.chunk pre (row ∷ []));
     }
 
--- rows that keep the rules, behind others that are stacked
+-- rows that keep the rules, after others that are stacked
 pub stacked-more : (sizes : Sizes) (base : ℕ) (pre rows : List BareRow) → AreStacked sizes pre
     → LiveRowsKeep sizes base pre rows → AreStacked sizes (pre ++ rows)
 stacked-more sizes base pre [] are k =
@@ -197,7 +197,7 @@ share_word sizes p q in_p in_q i from_p to_p from_q to_q =
       to_q = omega (arith, at_q, from_q, to_q);
     }
 
--- then their chunks do
+-- records that share a word are on chunks that meet
 pub chunks_meet : (sizes : Sizes) (p q : Place) → IsInside sizes p → IsInside sizes q
     → ShareWord p q → Meets p.chunk q.chunk
 chunks_meet sizes p q in_p in_q share =
@@ -213,14 +213,14 @@ chunks_meet sizes p q in_p in_q share =
     } in
     (p.chunk.root, share.word, in_chunk_p, in_chunk_q)
 
--- a record behind all of its loader's last chunk, or in a chunk that no row uses
+-- a record after all of its loader's last chunk, or in a chunk that no row uses
 abbrev pub IsFree : List BareRow → ClassRow → Type 0
 IsFree rows r =
     (is_unused r.place.chunk rows ≡ true)
     ⊎ ((is_last_chunk r.loader r.place.chunk rows ≡ true)
     × (used_words r.place.chunk rows ≤ r.place.offset))
 
--- shares no byte with those of the rows
+-- such a record shares no byte with those of the rows
 pub free_apart : (sizes : Sizes) (rows : List BareRow) (r s : ClassRow) → AreApart (classes_in rows)
     → AreStacked sizes rows → IsInside sizes r.place → IsFree rows r → Among s (classes_in rows)
     → ¬ ShareWord r.place s.place

@@ -12,7 +12,7 @@ use Rattle.cm_layout.specs.declared.half.Half.{Half}
 use Rattle.cm_layout.specs.declared.half.Half.TheVariants.{Zero, One}
 use Rattle.cm_layout.specs.Offsets.{half_size, half_at, roots_at}
 use Rattle.cm_layout.specs.Framing.{Range, Agree, part, other_half}
-use Rattle.cm_commit.specs.Guarding.{is_in}
+use Rattle.cm_commit.specs.Guarding.{is_in_any}
 
 -- ---- tests
 
@@ -62,27 +62,28 @@ part_same at n a b long_a long_b same =
 
 -- ---- many
 
--- each ends before this position, or at it
+-- each range ends at this position or before it
 abbrev pub AreWithin : ℕ → List Range → Type 0
 AreWithin n [] = Unit {0}
 AreWithin n (r ∷ ranges) = (r.at + r.count ≤ n) × AreWithin n ranges
 
 pub agree : (n : ℕ) (ranges : List Range) (a b : List ℕ) → AreWithin n ranges → n ≤ length a
-    → n ≤ length b → ((i : ℕ) → is_in ranges i ≡ true → get_or a i 0 ≡ get_or b i 0)
+    → n ≤ length b → ((i : ℕ) → is_in_any ranges i ≡ true → get_or a i 0 ≡ get_or b i 0)
     → Agree ranges a b
 agree n [] a b within long_a long_b same = tt
 agree n (r ∷ ranges) a b within long_a long_b same = (
   part_same r.at r.count a b (omega (arith, within.0, long_a)) (omega (arith, within.0, long_b))
-      (λ i here. same i (first_of_two (is_among r.at r.count i) (is_in ranges i) here)),
+      (λ i here. same i (first_of_two (is_among r.at r.count i) (is_in_any ranges i) here)),
   agree n ranges a b within.1 long_a long_b
-      (λ i there. same i (second_of_two (is_among r.at r.count i) (is_in ranges i) there)),
+      (λ i there. same i (second_of_two (is_among r.at r.count i) (is_in_any ranges i) there)),
 )
 
-pub bounded : (n : ℕ) (ranges : List Range) → AreWithin n ranges → (i : ℕ) → is_in ranges i ≡ true
+pub bounded : (n : ℕ) (ranges : List Range) → AreWithin n ranges → (i : ℕ) → is_in_any ranges i
+    ≡ true
     → i < n
 bounded n [] within i h = absurd (cc)
 bounded n (r ∷ ranges) within i h =
-    elim (or_cases (is_among r.at r.count i) (is_in ranges i) h) [
+    elim (or_cases (is_among r.at r.count i) (is_in_any ranges i) h) [
       | inl here ↦ omega (arith, among-to r.at r.count i here, within.0)
       | inr there ↦ bounded n ranges within.1 i there
     ]

@@ -1,4 +1,5 @@
--- A record that is written: it stands in its place, and leaves those of rows that it is apart from.
+-- A record that is written: it is then in its place, and leaves the records of rows that it is
+-- apart from.
 -- For `Committer::advance`, `Committer::images`, `Committer::offer` and others.
 use Rattle.std.proofs.Common.{◌≡◌, ℕ, ◌+◌, ◌*◌, ◌≤◌, Bool, true, false}
 use Rattle.std.proofs.Common.{List, ◌++◌, length, drop, refl, sym, ap, subst, ◌∙◌, arith}
@@ -35,7 +36,7 @@ pub not_true : (t : Bool) → (t ≡ true → ⊥) → t ≡ false
 not_true true isnt = absurd (isnt refl)
 not_true false isnt = refl
 
--- a root lies behind those before it
+-- a root lies after those before it
 pub roots-mono : (sizes : Sizes) (a b : ℕ) → a ≤ b → root_at sizes a ≤ root_at sizes b
 roots-mono sizes a b le =
     let times : a * root_size sizes ≤ b * root_size sizes =
@@ -81,7 +82,7 @@ record-leaves sizes n rows r words contents kept is free count long held =
     (among-to (record_at sizes s.place) (8 * s.place.words) i here))))))
     held
 
--- and stands in its place
+-- it is then in its place
 pub record-stands : (sizes : Sizes) (r : ClassRow) (words contents : List ℕ) → IsInside sizes
     r.place
     → length words ≡ r.place.words → packed_into (length words) (word_bytes words) ≡ words

@@ -1,5 +1,5 @@
--- A checkpoint's device calls: at each moment what is committed stands, in the old halves or in the
--- renewed ones.
+-- A checkpoint's device calls: at each moment a crash leaves what is committed, in the old halves
+-- or in the renewed ones.
 -- For `Committer::offer`, `checkpoints_renew`, `groups_go_through`.
 use Rattle.std.proofs.Common.{◌≡◌, ◌≢◌, ℕ, ◌+◌, ◌<◌, ◌≤◌, inl, Bool, true, false}
 use Rattle.std.proofs.Common.{List, [], ◌∷◌, ◌++◌, length, get_or, Option, Some, None, refl, sym}
@@ -14,13 +14,14 @@ use Rattle.cm_layout.specs.Slots.{open_gate}
 use Rattle.cm_layout.specs.Rows.{bare}
 use Rattle.cm_layout.specs.Frames.{IsGoodHead}
 use Rattle.cm_layout.specs.Framing.{other_half}
-use Rattle.cm_guards.specs.Plans.{Write, Fits}
+use Rattle.cm_guards.specs.Plans.{Write, WriteFits}
 use Rattle.cm_guards.specs.Stages.{Stage, Store, Turn, IsReady, Rests, claim_behind, gone_through}
 use Rattle.cm_guards.proofs.{kept_by_plan, overwritten_size, gate_written, gone_through-append}
 use Rattle.cm_commit.specs.Committed.{Committed}
 use Rattle.cm_commit.specs.Checkpoints.{shut_gate, shut_stages, half_stages, renewed}
 use Rattle.cm_commit.specs.Checkpoints.{renewed_framing, checkpoint_plan}
-use Rattle.cm_commit.specs.Guarding.{guard_of, IsCommitted, Shows, Holds, shut_other}
+use Rattle.cm_commit.specs.Guarding.{guard_of, IsCommitted, ContentsShow, HoldsCommitted}
+use Rattle.cm_commit.specs.Guarding.{shut_other}
 use Rattle.cm_commit.specs.Laws.{other_gate, renewed_write, IsRenewed, CheckpointsRenew}
 use Rattle.cm_commit.proofs.Ranges.{half_ends}
 use Rattle.cm_commit.proofs.Slots.{end_is}
@@ -36,9 +37,9 @@ none_of : (older : Option HalfHead) → is_some older ≡ false → older ≡ No
 none_of None h = refl
 none_of (Some head) h = absurd (cc)
 
--- a fact that rests on what is guarded
-pub rests : (c : Committed) (contents : List ℕ) → IsCommitted c → Shows c contents
-    → Rests (guard_of c) (Holds c) contents
+-- what is committed is a fact that rests on what is guarded
+pub rests : (c : Committed) (contents : List ℕ) → IsCommitted c → ContentsShow c contents
+    → Rests (guard_of c) (HoldsCommitted c) contents
 rests c contents right shows = record {
   ends = guard_bounded c right;
   long = shows.long;
@@ -64,15 +65,16 @@ module _ (c : Committed) (right : IsCommitted c) where
 
   -- The stages that shut it leave what is committed; what can follow there can follow them.
   pub record IsShutFirst (is_open : Bool) (contents : List ℕ) : Type 0 where
-    pub shows : Shows shut (gone_through (shut_stages is_open gate) contents)
+    pub shows : ContentsShow shut (gone_through (shut_stages is_open gate) contents)
     pub size : length (gone_through (shut_stages is_open gate) contents) ≡ length contents
     pub before : (next : Committed) (long : ℕ) (stage : Stage) (stages : List Stage)
-        → IsReady (Holds c) (Shows next) long (stage ∷ stages)
+        → IsReady (HoldsCommitted c) (ContentsShow next) long (stage ∷ stages)
         (gone_through (shut_stages is_open gate) contents)
-        → IsReady (Holds c) (Shows next) long (shut_stages is_open gate ++ stage ∷ stages) contents
+        → IsReady (HoldsCommitted c) (ContentsShow next) long
+        (shut_stages is_open gate ++ stage ∷ stages) contents
 
-  module _ (contents : List ℕ) (shows : Shows c contents) where
-    holds_here : Holds c contents
+  module _ (contents : List ℕ) (shows : ContentsShow c contents) where
+    holds_here : HoldsCommitted c contents
     holds_here = record {
       framing = c.framing;
       right = right;
@@ -83,21 +85,22 @@ module _ (c : Committed) (right : IsCommitted c) where
     inside_here : gate < length contents
     inside_here = (has_gate c contents shut_gate right shows).inside
 
-    shut_by : (b : ℕ) → b ≢ open_gate → Shows shut (set contents gate b)
+    shut_by : (b : ℕ) → b ≢ open_gate → ContentsShow shut (set contents gate b)
     shut_by b other = (other_halves_shut c contents b right shows other).shows
 
-    -- while the byte at the open gate is written over, whatever stands there
-    any_byte : is_some c.framing.older ≡ true → (b : ℕ) → Holds c (set contents gate b)
+    -- while the byte of the open gate is overwritten, what is committed holds, whatever byte is
+    -- there
+    any_byte : is_some c.framing.older ≡ true → (b : ℕ) → HoldsCommitted c (set contents gate b)
     any_byte is_open b = by_test (eqb b open_gate) refl
       where
-        by_test : (t : Bool) → eqb b open_gate ≡ t → Holds c (set contents gate b)
+        by_test : (t : Bool) → eqb b open_gate ≡ t → HoldsCommitted c (set contents gate b)
         by_test true e =
             let there = eqb-true (get_or contents gate 0) open_gate
             (sym (other_is_told c contents shows) ∙ is_open) in
             let same : set contents gate b ≡ contents =
             ap (set contents gate) (eqb-true b open_gate e ∙ sym there)
             ∙ set-get_or contents gate 0 in
-            subst (Holds c) (sym same) holds_here
+            subst (HoldsCommitted c) (sym same) holds_here
         by_test false e = record {
           framing = shut.framing;
           right = shut_right;
@@ -109,7 +112,7 @@ module _ (c : Committed) (right : IsCommitted c) where
     shut_first true is_open =
         let is = gate_written gate shut_gate contents inside_here in
         record {
-          shows = subst (Shows shut) (sym is) (shut_by shut_gate (λ e. absurd (cc)));
+          shows = subst (ContentsShow shut) (sym is) (shut_by shut_gate (λ e. absurd (cc)));
           size = ap length is ∙ length-set contents gate shut_gate;
           before = λ next long stage stages ready. record {
             holds = holds_here;
@@ -134,7 +137,7 @@ module _ (c : Committed) (right : IsCommitted c) where
           };
         }
 
-  -- ---- it is written, and opened
+  -- ---- the other half is written, and opened
 
   module _ (head : IsGoodHead c.sizes (renewed_framing c).head) where
     abbrev new_half : Write
@@ -144,7 +147,7 @@ module _ (c : Committed) (right : IsCommitted c) where
     half =
         half_stages c.sizes (other_half c.framing.counting) (renewed_framing c).head (bare c.rows)
 
-    -- it lies behind the gate, in the half
+    -- what is written lies after the gate, in the half
     write-end : 1 + length new_half.bytes ≤ half_size c.sizes
     write-end =
         let few = rows_few c right in
@@ -158,7 +161,7 @@ module _ (c : Committed) (right : IsCommitted c) where
           right.lawful.slots_from,
         )
 
-    module _ (base : List ℕ) (shows : Shows shut base) where
+    module _ (base : List ℕ) (shows : ContentsShow shut base) where
       abbrev with_half : List ℕ
       with_half = overwritten new_half.at new_half.bytes base
 
@@ -173,7 +176,7 @@ module _ (c : Committed) (right : IsCommitted c) where
       starts-within : new_half.at ≤ length base
       starts-within = omega (arith, ends-within)
 
-      fits : Fits (guard_of shut) new_half (length base)
+      fits : WriteFits (guard_of shut) new_half (length base)
       fits = record {
         starts_within = starts-within;
         within_limit =
@@ -186,15 +189,16 @@ module _ (c : Committed) (right : IsCommitted c) where
         };
       }
 
-      shows_half : Shows shut with_half
+      shows_half : ContentsShow shut with_half
       shows_half =
-          kept_by_plan (guard_of shut) (Shows shut) (new_half ∷ []) base (guarded shut shut_right)
+          kept_by_plan (guard_of shut) (ContentsShow shut) (new_half ∷ []) base
+          (guarded shut shut_right)
           shows.long (fits, tt) shows
 
       inside_half : gate < length with_half
       inside_half = (has_gate shut with_half shut_gate shut_right shows_half).inside
 
-      renewed_half : Shows (renewed c) (set with_half gate open_gate)
+      renewed_half : ContentsShow (renewed c) (set with_half gate open_gate)
       renewed_half =
           (written_halves_open c with_half right head shows_half
           (part-written new_half.at new_half.bytes base starts-within)).shows
@@ -202,8 +206,8 @@ module _ (c : Committed) (right : IsCommitted c) where
       opened-is : opened ≡ set with_half gate open_gate
       opened-is = gate_written gate open_gate with_half inside_half
 
-      pub shows_opened : Shows (renewed c) opened
-      shows_opened = subst (Shows (renewed c)) (sym opened-is) renewed_half
+      pub shows_opened : ContentsShow (renewed c) opened
+      shows_opened = subst (ContentsShow (renewed c)) (sym opened-is) renewed_half
 
       pub size_opened : length opened ≡ length base
       size_opened =
@@ -213,12 +217,13 @@ module _ (c : Committed) (right : IsCommitted c) where
           ∙ omega (arith, ends-within)))
 
       -- the old half counts, or the new one
-      either_half : (b : ℕ) → Holds c (set with_half gate b)
+      either_half : (b : ℕ) → HoldsCommitted c (set with_half gate b)
       either_half b = by_test (eqb b open_gate) refl
         where
-          by_test : (t : Bool) → eqb b open_gate ≡ t → Holds c (set with_half gate b)
+          by_test : (t : Bool) → eqb b open_gate ≡ t → HoldsCommitted c (set with_half gate b)
           by_test true e =
-              subst (λ (k : ℕ). Holds c (set with_half gate k)) (sym (eqb-true b open_gate e))
+              subst (λ (k : ℕ). HoldsCommitted c (set with_half gate k))
+              (sym (eqb-true b open_gate e))
               (record {
                 framing = renewed_framing c;
                 right = right_renewed c right head;
@@ -234,14 +239,15 @@ module _ (c : Committed) (right : IsCommitted c) where
           }
 
       last_claim : (next : Committed) (long : ℕ) (stages : List Stage)
-          → IsReady (Holds c) (Shows next) long stages opened
-          → claim_behind stages (Holds c) (Shows next) (set with_half gate open_gate)
-      last_claim next long [] ready = subst (Shows next) opened-is ready.holds
+          → IsReady (HoldsCommitted c) (ContentsShow next) long stages opened
+          → claim_behind stages (HoldsCommitted c) (ContentsShow next)
+          (set with_half gate open_gate)
+      last_claim next long [] ready = subst (ContentsShow next) opened-is ready.holds
       last_claim next long (stage ∷ stages) ready = either_half open_gate
 
       pub half_ready : (next : Committed) (long : ℕ) (stages : List Stage)
-          → IsReady (Holds c) (Shows next) long stages opened
-          → IsReady (Holds c) (Shows next) long (half ++ stages) base
+          → IsReady (HoldsCommitted c) (ContentsShow next) long stages opened
+          → IsReady (HoldsCommitted c) (ContentsShow next) long (half ++ stages) base
       half_ready next long stages ready = record {
         guard = guard_of shut;
         rests = rests shut base shut_right shows;
@@ -264,7 +270,7 @@ module _ (c : Committed) (right : IsCommitted c) where
 
     -- ---- both
 
-    module _ (contents : List ℕ) (shows : Shows c contents) where
+    module _ (contents : List ℕ) (shows : ContentsShow c contents) where
       abbrev first : List Stage
       first = shut_stages (is_some c.framing.older) gate
 
@@ -280,17 +286,18 @@ module _ (c : Committed) (right : IsCommitted c) where
       pub renews : IsRenewed c contents
       renews = record {
         right = right_renewed c right head;
-        shows = subst (Shows (renewed c)) (sym through)
+        shows = subst (ContentsShow (renewed c)) (sym through)
             (shows_opened shut_contents shut_here.shows);
         size = ap length through
             ∙ (size_opened shut_contents shut_here.shows ∙ shut_here.size);
         before = λ next long stages ready.
-            subst (λ (plan : List Stage). IsReady (Holds c) (Shows next) long plan contents)
+            subst (λ (plan : List Stage). IsReady (HoldsCommitted c) (ContentsShow next) long plan
+            contents)
             (sym (append_assoc first half stages))
             (shut_here.before next long
             (Store (new_half ∷ [])) (Turn gate open_gate ∷ stages)
             (half_ready shut_contents shut_here.shows next long stages
-            (subst (IsReady (Holds c) (Shows next) long stages) through ready)));
+            (subst (IsReady (HoldsCommitted c) (ContentsShow next) long stages) through ready)));
       }
 
 pub checkpoints_renew : CheckpointsRenew

@@ -1,4 +1,4 @@
--- The other half, once it is written behind its gate: the open gate's byte makes it the half that
+-- The other half, once it is written after its gate: the open gate's byte makes it the half that
 -- counts.
 -- For `checkpoints_renew`, `written_halves_open`.
 use Rattle.std.proofs.Common.{◌≡◌, ℕ, suc, ◌+◌, ◌<◌, List, ◌∷◌, ◌++◌, length, take}
@@ -17,7 +17,7 @@ use Rattle.cm_layout.specs.Zeros.{blank, zeros}
 use Rattle.cm_layout.proofs.{length-blank}
 use Rattle.cm_commit.specs.Committed.{Committed}
 use Rattle.cm_commit.specs.Checkpoints.{renewed, renewed_framing, half_behind_gate}
-use Rattle.cm_commit.specs.Guarding.{IsCommitted, Shows, shut_other}
+use Rattle.cm_commit.specs.Guarding.{IsCommitted, ContentsShow, shut_other}
 use Rattle.cm_commit.specs.Laws.{other_gate, WrittenHalvesOpen}
 use Rattle.cm_commit.proofs.Ranges.{byte_in_part}
 use Rattle.cm_commit.proofs.Slots.{end_is}
@@ -44,7 +44,7 @@ module _ (c : Committed) where
   abbrev next : Framing
   next = renewed_framing c
 
-  -- the new half behind its gate, up to its end
+  -- the new half after its gate, up to its end
   abbrev front : List ℕ
   front = half_head_rest next.head ++ flat_map row_slots next.live
 
@@ -67,7 +67,7 @@ module _ (c : Committed) where
   pub size-renewed : used_size next ≡ suc (length front)
   size-renewed = ap length used-renewed
 
-  module _ (contents : List ℕ) (right : IsCommitted c) (shows : Shows c contents)
+  module _ (contents : List ℕ) (right : IsCommitted c) (shows : ContentsShow c contents)
       (there : part (other_gate c + 1) (length behind) contents ≡ behind) where
     abbrev opened : List ℕ
     opened = set contents (other_gate c) open_gate
@@ -87,7 +87,7 @@ module _ (c : Committed) where
         ∙ (part-gate (other_gate c) (length front) open_gate contents inside
         ∙ (ap (λ (l : List ℕ). open_gate ∷ l) front-there ∙ sym used-renewed))
 
-    -- the byte behind the new half's end
+    -- the byte after the new half's end
     end-there : get_or opened (other_gate c + used_size next) 0 ≡ 0
     end-there =
         let n = length front in
@@ -108,7 +108,7 @@ module _ (c : Committed) where
         (drop (half_at c.sizes c.framing.counting) contents) (omega (arith, size)))
         ∙ (ap (take 64) shows.used ∙ used-head c.framing)
 
-    pub shows_renewed : IsGoodHead c.sizes next.head → Shows (renewed c) opened
+    pub shows_renewed : IsGoodHead c.sizes next.head → ContentsShow (renewed c) opened
     shows_renewed head =
         let g = has_gate c contents open_gate right shows in
         let some = right.lawful.slots_from in

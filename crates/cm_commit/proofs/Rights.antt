@@ -1,4 +1,4 @@
--- What is committed after a group is right again.
+-- What is committed after a group is again right.
 -- For `Committer::advance`, `Committer::images`, `Committer::offer` and others.
 use Rattle.std.proofs.Common.{◌≡◌, ℕ, ◌+◌, ◌*◌, ◌≤◌, List, [], ◌∷◌, ◌++◌, length, refl}
 use Rattle.std.proofs.Common.{sym, ap, subst, ◌∙◌, arith, append-nil, append_assoc, None}
@@ -15,7 +15,7 @@ use Rattle.cm_layout.specs.Rules.{broken_rule}
 use Rattle.cm_layout.specs.Frames.{BareRow, BareEntry, EntriesKeep, GroupKeeps, GroupsKeep}
 use Rattle.cm_layout.specs.Frames.{AreApart}
 use Rattle.cm_layout.specs.Frames.{LiveRowsKeep, rows_of, entries_of, group_slots, bare_entry}
-use Rattle.cm_layout.specs.Framing.{IsRight, used_bytes, used_size, open_half}
+use Rattle.cm_layout.specs.Framing.{IsRightFraming, used_bytes, used_size, open_half}
 use Rattle.cm_layout.proofs.{entry-apart, rows_after_all-append, entry-live, classes-bare}
 use Rattle.cm_layout.proofs.{after-bare, rule-bare, newest-entries}
 use Rattle.cm_group.specs.Groups.{Carried, Handed, IsGroup, entries_in, slots_taken}
@@ -53,7 +53,7 @@ all-bare rows (c ∷ carried) =
     all-bare (rows_after rows (filled c)) carried
     ∙ ap (λ (l : List BareRow). rows_after_all l (entries_in carried)) (after-filled rows c)
 
--- they keep the rules
+-- the entries keep the rules
 pub entries_keep : (sizes : Sizes) (committed rows : List (Row (List ℕ))) (n : ℕ)
     (carried : List Carried) → MayJoinAll sizes committed rows n carried
     → EntriesKeep sizes (bare rows) n (entries_in carried)
@@ -66,7 +66,7 @@ entries_keep sizes committed rows n (c ∷ carried) k = (
       (entries_keep sizes committed (rows_after rows (filled c)) (n + 1) carried k.1),
 )
 
--- and so do the rows after one of them
+-- the rows after one of them keep the rules too
 pub record AreKept (sizes : Sizes) (n : ℕ) (rows : List (Row (List ℕ))) : Type 0 where
   pub live : LiveRowsKeep sizes n [] (bare rows)
   pub apart : AreApart (classes_in (bare rows))
@@ -96,14 +96,14 @@ kept-all sizes committed rows n (c ∷ carried) k joins =
     (kept-all sizes committed (rows_after rows (filled c)) (n + 1) carried
     (kept-after sizes committed rows n c k joins.0) joins.1)
 
-pub are_kept : (c : Committed) → IsRight c.sizes c.framing c.rows c.number
+pub are_kept : (c : Committed) → IsRightFraming c.sizes c.framing c.rows c.number
     → AreKept c.sizes c.number c.rows
 are_kept c right = record {
   live = rows_live c.sizes c.framing c.rows c.number right;
   apart = subst AreApart (sym (classes-bare c.rows)) right.apart;
 }
 
--- ---- a group more
+-- ---- one more group
 
 groups-more : (sizes : Sizes) (rows : List BareRow) (n : ℕ) (groups : List (List BareEntry))
     (group : List BareEntry) → GroupsKeep sizes rows n groups
@@ -135,7 +135,7 @@ count-entries [] = omega arith
 count-entries (c ∷ carried) = omega (arith, count-entries carried)
 
 -- the end of the half that counts, after the group
-pub size-more : (c : Committed) (group : Handed) → IsRight c.sizes c.framing c.rows c.number
+pub size-more : (c : Committed) (group : Handed) → IsRightFraming c.sizes c.framing c.rows c.number
     → IsNext c group
     → used_size (with_group c.framing (entries_in group.entries))
     ≡ 64 * end_slot c.framing + 64 + 64 * slots_taken group.entries
@@ -157,9 +157,10 @@ all-more : {A : Type 0} (P : A → Type 0) (xs : List A) (x : A) → AllByRecurs
 all-more P [] x all one = (one, tt)
 all-more P (y ∷ xs) x all one = (all.0, all-more P xs x all.1 one)
 
-pub right_after : (c : Committed) (group : Handed) → IsRight c.sizes c.framing c.rows c.number
+pub right_after : (c : Committed) (group : Handed)
+    → IsRightFraming c.sizes c.framing c.rows c.number
     → IsGroup group → IsNext c group → CountsNewest c → 1 ≤ slots_taken group.entries
-    → IsRight c.sizes (with_group c.framing (entries_in group.entries))
+    → IsRightFraming c.sizes (with_group c.framing (entries_in group.entries))
     (rows_after_group c.rows group.entries) (c.number + length group.entries)
 right_after c group right is next newest some =
     let es = entries_in group.entries in

@@ -43,7 +43,7 @@ use Rattle.cm_commit.proofs.Turning.{slots-end}
 
 -- ---- how long a file is
 
--- with zeros for so many roots
+-- how long it is with zeros for `n` more roots
 roots-grow : (sizes : Sizes) (from n len : ℕ) → root_at sizes from ≤ len
     → size_after (root_writes sizes from n) len ≡ max len (root_at sizes (from + n))
 roots-grow sizes from zero len starts =
@@ -58,7 +58,7 @@ roots-grow sizes from (suc n) len starts =
     let behind = roots-mono sizes (from + 1) (from + suc n) (omega arith) in
     omega (arith, rest, same, behind, size)
 
--- with records in its whole roots
+-- records in its whole roots leave its length as it is
 move-stays : (sizes : Sizes) (to : Chunk) (offset : ℕ) (records : List (List ℕ)) (len : ℕ)
     → is_chunk sizes to ≡ true → offset + words_in records ≤ chunk_size to.order
     → root_at sizes (to.root + 1) ≤ len
@@ -116,7 +116,7 @@ records-stay sizes committed rows n (c ∷ carried) len counted joins long =
     (counted-after rows c.entry counted joins.0.records.0) joins.1
     (omega (arith, there, long))))
 
--- with a group
+-- how long it is with a group
 group-size : (c : Committed) (group : Handed) (len : ℕ) → IsCommitted c → AreCounted c.rows
     → IsNext c group → roots_at c.sizes ≤ len
     → size_after (group_writes c len group.entries) len

@@ -1,5 +1,5 @@
--- Contents that match what is committed stand for its cache, where its records are those of classes
--- that keep the class rules.
+-- Contents that match what is committed denote its cache, if its records are those of classes that
+-- keep the class rules.
 -- For `Committer::advance`, `Committer::images`, `Committer::offer`, `Committer::steps_left`.
 use Rattle.std.proofs.Common.{◌≡◌, ℕ, ◌≤◌, ◌^◌, Bool, true, false, cond, List, [], ◌∷◌, ◌++◌}
 use Rattle.std.proofs.Common.{length, drop, get_or, Some, None, inl, inr, refl, sym, ap, subst}
@@ -29,7 +29,7 @@ use Rattle.std.specs.List.{AllByRecursion}
 use Rattle.cm_state.specs.State.{NamesDiffer, class_among, class_shows, words_show, state_of}
 use Rattle.cm_state.specs.Stands.{EachKeepsRules, arenas_among}
 use Rattle.cm_commit.specs.Committed.{Committed}
-use Rattle.cm_commit.specs.Guarding.{IsCommitted, Shows}
+use Rattle.cm_commit.specs.Guarding.{IsCommitted, ContentsShow}
 use Rattle.cm_commit.specs.States.{ShowsCache}
 use Rattle.cm_commit.proofs.Guards.{rows_inside}
 use Rattle.cm_commit.proofs.Places.{IsInside}
@@ -44,7 +44,7 @@ name_told c words is =
     (run_read words (name_run words (second_of (get_or words 1 0))) (class_name_of c)
     (own_name c words is))
 
--- each record tells its class's name
+-- each record gives its class's name
 AreNamed : List (Row ClassFile) → Type 0
 AreNamed [] = Unit {0}
 AreNamed (Loader r ∷ rows) = AreNamed rows
@@ -155,10 +155,10 @@ are_short sizes roots (Class r words ∷ rows) small held = (
   are_short sizes roots rows (λ s m. small s (inr m)) held.1,
 )
 
--- ---- what the contents stand for
+-- ---- what the contents denote
 
 pub shows_cache : (c : Committed) (contents : List ℕ) → IsCommitted c → AreRight c.rows
-    → NamesDiffer words_show [] c.rows → Shows c contents
+    → NamesDiffer words_show [] c.rows → ContentsShow c contents
     → ShowsCache c.sizes c.rows c.number contents
 unfolding AreNamed
 shows_cache c contents right records names shows =

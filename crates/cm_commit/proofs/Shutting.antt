@@ -1,5 +1,5 @@
--- The gate of the half that doesn't count: while it is shut, all behind it counts for nothing, and
--- it may be shut at any time.
+-- The gate of the half that doesn't count: while it is shut, whatever follows it counts for
+-- nothing, and it may be shut at any time.
 -- For `checkpoints_renew`, `other_halves_shut`, `others_are_told`, `shut_halves_may_change`.
 use Rattle.std.proofs.Common.{◌≡◌, ◌≢◌, ℕ, ◌+◌, ◌-◌, ◌<◌, ◌≤◌, ◌⊎◌, inl, inr, Bool, true, false}
 use Rattle.std.proofs.Common.{List, [], ◌∷◌, length, get_or, Option, Some, None, refl, sym, ap}
@@ -19,7 +19,7 @@ use Rattle.cm_layout.specs.Frames.{HoldsRow}
 use Rattle.cm_layout.specs.Framing.{Range, HasOlder, part, guards, needs}
 use Rattle.cm_layout.specs.Framing.{used_bytes, used_size, older_size, other_half, record_ranges}
 use Rattle.cm_commit.specs.Committed.{Committed}
-use Rattle.cm_commit.specs.Guarding.{is_in, IsCommitted, Shows, shut_other}
+use Rattle.cm_commit.specs.Guarding.{is_in_any, IsCommitted, ContentsShow, shut_other}
 use Rattle.cm_commit.specs.Laws.{other_gate, ShutHalvesMayChange, OtherHalvesShut}
 use Rattle.cm_commit.specs.Laws.{OthersAreTold}
 use Rattle.cm_commit.proofs.Ranges.{among-from, among-to, byte_in_part, half_begins, half_ends}
@@ -30,7 +30,7 @@ use Rattle.cm_commit.proofs.Gate.{part-before, part-behind}
 
 -- ---- what is guarded lies outside a shut half
 
--- each lies in front of this range, or behind it
+-- each range lies before this one, or after it
 abbrev AreOutside : ℕ → ℕ → List Range → Type 0
 AreOutside at n [] = Unit {0}
 AreOutside at n (r ∷ ranges) =
@@ -44,10 +44,10 @@ not_among at n i apart = by_test (is_among at n i) refl
     by_test false e = refl
 
 outside : (at n : ℕ) (ranges : List Range) → AreOutside at n ranges → (i : ℕ)
-    → is_in ranges i ≡ true → is_among at n i ≡ false
+    → is_in_any ranges i ≡ true → is_among at n i ≡ false
 outside at n [] apart i h = absurd (cc)
 outside at n (r ∷ ranges) apart i h =
-    elim (or_cases (is_among r.at r.count i) (is_in ranges i) h) [
+    elim (or_cases (is_among r.at r.count i) (is_in_any ranges i) h) [
       | inl here ↦
           let from = among-from r.at r.count i here in
           let to = among-to r.at r.count i here in
@@ -65,9 +65,9 @@ records_outside sizes (Loader r ∷ rows) at n le = records_outside sizes rows a
 records_outside sizes (Class r words ∷ rows) at n le =
     (inr (omega (arith, le)), records_outside sizes rows at n le)
 
--- the bytes behind the shut gate
+-- the bytes after the shut gate
 pub apart_from_shut : (c : Committed) (n i : ℕ) → IsCommitted c → c.framing.older ≡ None
-    → 1 + n ≤ half_size c.sizes → is_in (guards c.sizes c.framing c.rows) i ≡ true
+    → 1 + n ≤ half_size c.sizes → is_in_any (guards c.sizes c.framing c.rows) i ≡ true
     → is_among (other_gate c + 1) n i ≡ false
 apart_from_shut c n i right shut small guarded_i =
     let at = other_gate c + 1 in
@@ -118,7 +118,7 @@ part-set : (at n gate b : ℕ) (xs : List ℕ) → (at + n ≤ gate) ⊎ (gate <
 part-set at n gate b xs (inl before) = part-before at n gate b xs before
 part-set at n gate b xs (inr behind) = part-behind at n gate b xs behind
 
--- What stands of a framing, but for the other half, whatever byte stands at that half's gate.
+-- What holds of a framing, except for the other half, whatever byte is at that half's gate.
 pub record HasGate (c : Committed) (contents : List ℕ) (byte : ℕ) : Type 0 where
   pub inside : other_gate c < length contents
   pub long : needs c.sizes c.rows ≤ length (set contents (other_gate c) byte)
@@ -131,7 +131,8 @@ pub record HasGate (c : Committed) (contents : List ℕ) (byte : ℕ) : Type 0 w
       ≡ get_or contents (half_at c.sizes c.framing.counting + n) 0
   pub records : HoldRows c.sizes (set contents (other_gate c) byte) c.rows
 
-pub has_gate : (c : Committed) (contents : List ℕ) (byte : ℕ) → IsCommitted c → Shows c contents
+pub has_gate : (c : Committed) (contents : List ℕ) (byte : ℕ) → IsCommitted c
+    → ContentsShow c contents
     → HasGate c contents byte
 has_gate c contents byte right shows =
     let gate = other_gate c in
@@ -173,9 +174,10 @@ right_shut c right = record {
   apart = right.apart;
 }
 
--- a byte that doesn't open the gate stands there
-shows_shut : (c : Committed) (contents : List ℕ) (byte : ℕ) → IsCommitted c → Shows c contents
-    → byte ≢ open_gate → Shows (shut_other c) (set contents (other_gate c) byte)
+-- a byte that doesn't open the gate is there
+shows_shut : (c : Committed) (contents : List ℕ) (byte : ℕ) → IsCommitted c
+    → ContentsShow c contents
+    → byte ≢ open_gate → ContentsShow (shut_other c) (set contents (other_gate c) byte)
 unfolding used_bytes
 shows_shut c contents byte right shows shut =
     let g = has_gate c contents byte right shows in
@@ -197,8 +199,9 @@ other_halves_shut c contents byte right shows shut = record {
 }
 
 -- the gate is shut already
-pub shows_as_shut : (c : Committed) (contents : List ℕ) → c.framing.older ≡ None → Shows c contents
-    → Shows (shut_other c) contents
+pub shows_as_shut : (c : Committed) (contents : List ℕ) → c.framing.older ≡ None
+    → ContentsShow c contents
+    → ContentsShow (shut_other c) contents
 unfolding used_bytes
 shows_as_shut c contents none shows = record {
   long = shows.long;
@@ -209,7 +212,7 @@ shows_as_shut c contents none shows = record {
   records = shows.records;
 }
 
--- ---- what the byte tells
+-- ---- what the byte says
 
 head_told : (at : ℕ) (older : Option HalfHead) (contents : List ℕ) → HasOlder at older contents
     → is_some older ≡ eqb (get_or contents at 0) open_gate

@@ -1,4 +1,4 @@
--- The slots of the half that counts, and of a group more.
+-- The slots of the half that counts, with one more group.
 -- For `Committer::advance`, `Committer::images`, `Committer::offer` and others.
 use Rattle.std.proofs.Common.{◌≡◌, ℕ, ◌+◌, ◌*◌, List, [], ◌∷◌, ◌++◌, length, refl, sym, ap}
 use Rattle.std.proofs.Common.{◌∙◌, arith, append_assoc, append-nil}
@@ -82,7 +82,7 @@ end_is sizes f good =
       groups_count sizes f.live f.head.base f.groups good.groups,
     )
 
--- ---- a group more
+-- ---- one more group
 
 -- the last number of groups whose first is the one after n
 pub last_number : ℕ → List (List BareEntry) → ℕ
@@ -119,7 +119,7 @@ used-more f n group e =
     ∙ (ap (λ (l : List ℕ). head ++ l) (sym (append_assoc live groups (group_slots n group)))
     ∙ sym (append_assoc head (live ++ groups) (group_slots n group)))
 
--- behind its gate a group has what its plan writes there
+-- after its gate a group has what its plan writes there
 pub behind-gate : (n : ℕ) (group : List BareEntry)
     → group_slots n group ≡ open_gate ∷ slots_behind_gate n group
 behind-gate n group = refl

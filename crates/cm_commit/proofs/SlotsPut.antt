@@ -1,4 +1,4 @@
--- The bytes of a group's slots, one part behind another.
+-- The bytes of a group's slots, one part after another.
 -- For `put_slots`.
 use Rattle.std.proofs.Common.{◌≡◌, ℕ, ◌+◌, ◌<◌, ◌≤◌, Bool, cond, List, [], ◌++◌}
 use Rattle.std.proofs.Common.{sym, ap, ◌∙◌, append-nil}

@@ -1,4 +1,4 @@
--- What a committer asks of its books tells what is asked of a group.
+-- The tests that a committer makes on its live rows decide whether a group may come.
 -- For `have_one_name`, `is_absent`, `may_join`.
 use Rattle.std.proofs.Common.{◌≡◌, ℕ, ◌+◌, Bool, true, false, cond, List, [], ◌∷◌}
 use Rattle.std.proofs.Common.{Bor, Option, Some, None, refl, sym, ap, ◌∙◌, is_none, is_some, not}
@@ -29,7 +29,8 @@ use Rattle.cm_state.specs.State.{words_show, class_among}
 use Rattle.cm_group.specs.Groups.{Carried, entries_in}
 use Rattle.cm_commit.specs.Keeping.{keep_rules}
 use Rattle.cm_commit.specs.Offers.{carries_own, writes_apart}
-use Rattle.cm_commit.specs.Joining.{is_inside, are_inside, are_apart, are_new, may_join}
+use Rattle.cm_commit.specs.Joining.{entry_is_inside, are_inside, entries_are_apart, are_new}
+use Rattle.cm_commit.specs.Joining.{may_join}
 use Rattle.cm_commit.proofs.Fitting.{rule_both}
 use Rattle.cm_commit.proofs.With.{bare-with}
 
@@ -40,7 +41,7 @@ rule_one true rule keeps = refl
 rule_one false rule keeps = absurd (cc)
 
 inside_one : (sizes : Sizes) (rows : List BareRow) (n : ℕ) (e : BareEntry)
-    → broken_rule sizes rows n e ≡ None → is_inside sizes e ≡ true
+    → broken_rule sizes rows n e ≡ None → entry_is_inside sizes e ≡ true
 inside_one sizes rows n (entry.Live (Loader r)) keeps = refl
 inside_one sizes rows n (entry.Live (Class r p)) keeps =
     let fits = (rule_both (is_live r.loader rows && has_room sizes rows (Class r p))
@@ -72,11 +73,11 @@ inside_all sizes rows n (c ∷ carried) keep =
     let rule = broken_rule sizes rows n (bare_entry c.entry) in
     let keeps = and_parts (is_none rule)
     (keep_rules sizes (rows_after rows (bare_entry c.entry)) (n + 1) (entries_in carried)) keep in
-    and_from (is_inside sizes (bare_entry c.entry)) (are_inside sizes carried)
+    and_from (entry_is_inside sizes (bare_entry c.entry)) (are_inside sizes carried)
     (inside_one sizes rows n (bare_entry c.entry) (none_is rule keeps.0))
     (inside_all sizes (rows_after rows (bare_entry c.entry)) (n + 1) carried keeps.1)
 
--- ---- rows with something else kept of each class
+-- ---- rows that keep something else of each class
 
 pub classes-with : {P Q : Type 0} (f : P → Q) (rows : List (Row P))
     → classes_in (rows_with f rows) ≡ classes_in rows
@@ -92,7 +93,7 @@ apart-with f rows (entry.UnloadAll e) = refl
 apart-with f rows (entry.Move e) = rw (classes-with f rows) refl
 
 pub apart-all : {P Q : Type 0} (f : P → Q) (rows : List (Row P)) (carried : List Carried)
-    → are_apart (rows_with f rows) carried ≡ are_apart rows carried
+    → entries_are_apart (rows_with f rows) carried ≡ entries_are_apart rows carried
 apart-all f rows [] = refl
 apart-all f rows (c ∷ carried) =
     λ i. apart-with f rows (bare_entry c.entry) i && apart-all f rows carried i
@@ -117,7 +118,7 @@ none-with {P} f u name (Class r p ∷ rows) =
     by_test true rest = refl
     by_test false rest = rest
 
--- what a reference to it tells
+-- what a reference to it says
 pub copied_none : {A : Type 0} (o : Option (Bor A)) (none : Bool) → is_some o ≡ not none
     → none ≡ is_none (option_copied o)
 copied_none None true e = refl
@@ -161,7 +162,7 @@ module _ {P : Type 0} (f : P → List ℕ) (sizes : Sizes) (rows : List (Row P))
   may_is : may_join sizes (rows_with f rows) n carried
       ≡ (list_all carries_own carried
       && (keep_rules sizes (bare rows) (n + 1) (entries_in carried)
-      && (are_apart rows carried && new)))
+      && (entries_are_apart rows carried && new)))
   may_is =
       λ i. list_all carries_own carried
       && (keep_rules sizes (bare-with f rows i) (n + 1) (entries_in carried)
@@ -170,16 +171,16 @@ module _ {P : Type 0} (f : P → List ℕ) (sizes : Sizes) (rows : List (Row P))
   pub breaks : list_all carries_own carried ≡ true → kept ≡ false
       → false ≡ may_join sizes (rows_with f rows) n carried
   breaks own e =
-      sym (may_is ∙ (λ i. own i && (rules false e i && (are_apart rows carried && new))))
+      sym (may_is ∙ (λ i. own i && (rules false e i && (entries_are_apart rows carried && new))))
 
   pub overwrites : list_all carries_own carried ≡ true → kept ≡ true
-      → are_apart rows carried ≡ false → false ≡ may_join sizes (rows_with f rows) n carried
+      → entries_are_apart rows carried ≡ false → false ≡ may_join sizes (rows_with f rows) n carried
   overwrites own e apart =
       sym (may_is ∙ (λ i. own i && (rules true e i && (apart i && new))))
 
   -- only the names of classes are left
   pub names_left : list_all carries_own carried ≡ true → kept ≡ true
-      → are_apart rows carried ≡ true → new ≡ may_join sizes (rows_with f rows) n carried
+      → entries_are_apart rows carried ≡ true → new ≡ may_join sizes (rows_with f rows) n carried
   names_left own e apart =
       sym (may_is ∙ (λ i. own i && (rules true e i && (apart i && new))))
 

@@ -1,5 +1,5 @@
--- A group's stages, with a checkpoint where the half that counts has no room for it: they lead from
--- what is committed to what is committed after it.
+-- A group's stages, with a checkpoint if the half that counts has no room for it, lead from what is
+-- committed to what is committed after it.
 -- For `Committer::advance`, `Committer::offer`, `groups_go_through`.
 use Rattle.std.proofs.Common.{◌≡◌, ℕ, ◌+◌, Bool, true, false, cond, List, [], ◌∷◌, ◌++◌}
 use Rattle.std.proofs.Common.{length, inl, inr, refl, sym, ap, subst, ◌∙◌, arith, ⊎_elim}
@@ -22,7 +22,8 @@ use Rattle.cm_commit.specs.Checkpoints.{checkpoint_of, checkpoint_plan, is_due}
 use Rattle.cm_commit.specs.Offers.{IsNext, MayCome, committed_after}
 use Rattle.cm_commit.specs.GroupPlans.{group_plan, group_writes, gate_at, plan_at}
 use Rattle.cm_commit.specs.GroupPlans.{whole_roots}
-use Rattle.cm_commit.specs.Guarding.{IsCommitted, CountsNewest, Shows, Holds, guard_of}
+use Rattle.cm_commit.specs.Guarding.{IsCommitted, CountsNewest, ContentsShow, HoldsCommitted}
+use Rattle.cm_commit.specs.Guarding.{guard_of}
 use Rattle.cm_commit.specs.Keeps.{roots_then}
 use Rattle.cm_commit.specs.Laws.{TellsWords, GroupsGoThrough}
 use Rattle.cm_commit.proofs.Guards.{guarded, needs_roots}
@@ -33,10 +34,10 @@ use Rattle.cm_commit.proofs.Turning.{groups_turn}
 use Rattle.cm_commit.proofs.NewHalves.{full_halves_renew, right_renewed}
 use Rattle.cm_commit.proofs.Renewing.{checkpoints_renew, rests}
 
--- ---- what shows what is committed holds it
+-- ---- contents that show what is committed hold it
 
-pub shows_holds : (c : Committed) (contents : List ℕ) → IsCommitted c → Shows c contents
-    → Holds c contents
+pub shows_holds : (c : Committed) (contents : List ℕ) → IsCommitted c → ContentsShow c contents
+    → HoldsCommitted c contents
 shows_holds c contents right shows =
     record { framing = c.framing; right = right; matches = shows; no_older = omega arith }
 
@@ -44,7 +45,7 @@ shows_holds c contents right shows =
 
 module _ (c : Committed) (group : Handed) (contents : List ℕ) (right : IsCommitted c)
     (is : IsGroup group) (next : IsNext c group) (newest : CountsNewest c)
-    (tells : AllByRecursion TellsWords group.entries) (shows : Shows c contents) where
+    (tells : AllByRecursion TellsWords group.entries) (shows : ContentsShow c contents) where
   abbrev after : Committed
   after = committed_after c group
 
@@ -55,7 +56,7 @@ module _ (c : Committed) (group : Handed) (contents : List ℕ) (right : IsCommi
   opened = overwritten (gate_at c) (open_gate ∷ []) base
 
   -- the gate turns what is held
-  turns : Turns (Holds c) (Shows after) (gate_at c) open_gate base
+  turns : Turns (HoldsCommitted c) (ContentsShow after) (gate_at c) open_gate base
   turns =
       let t = (groups_turn c group contents right is next newest tells shows).turns in
       record {
@@ -67,7 +68,7 @@ module _ (c : Committed) (group : Handed) (contents : List ℕ) (right : IsCommi
         last = t.last;
       }
 
-  pub group_ready : IsReady (Holds c) (Shows after) (length opened)
+  pub group_ready : IsReady (HoldsCommitted c) (ContentsShow after) (length opened)
       (group_plan c (length contents) group.entries) contents
   group_ready =
       let t = groups_turn c group contents right is next newest tells shows in
@@ -77,12 +78,13 @@ module _ (c : Committed) (group : Handed) (contents : List ℕ) (right : IsCommi
         can = t.can;
         behind = record {
           holds = shows_holds c base right
-              (kept_by_plan (guard_of c) (Shows c)
+              (kept_by_plan (guard_of c) (ContentsShow c)
               (group_writes c (length contents) group.entries) contents (guarded c right)
               shows.long t.can shows);
           turns = turns;
           behind = record {
-            holds = turned (Shows c) (Shows after) (gate_at c) open_gate base opened t.turns refl;
+            holds = turned (ContentsShow c) (ContentsShow after) (gate_at c) open_gate base opened
+                t.turns refl;
             size = refl;
           };
         };
@@ -136,7 +138,7 @@ module _ (c : Committed) (group : Handed) (right : IsCommitted c) (is : IsGroup 
     };
   }
 
-  -- it is of the newest version where the half that counted was
+  -- what is committed in them is of the newest version if the half that counted was
   pub ready_newest : c.framing.head.version ≡ entry_version
       → (ready_for c group.entries).framing.head.version ≡ entry_version
   ready_newest newest = by_test due
@@ -151,7 +153,7 @@ module _ (c : Committed) (group : Handed) (right : IsCommitted c) (is : IsGroup 
   pub ready_next : IsNext (ready_for c group.entries) group
   ready_next = (readied due refl).room
 
-  -- and what is committed after it
+  -- it is right, and so is what is committed after the group
   pub after_right : CountsNewest c
       → IsCommitted (committed_after (ready_for c group.entries) group)
   after_right newest =
@@ -163,7 +165,7 @@ module _ (c : Committed) (group : Handed) (right : IsCommitted c) (is : IsGroup 
 
 module _ (c : Committed) (group : Handed) (contents : List ℕ) (right : IsCommitted c)
     (is : IsGroup group) (next : MayCome c.sizes c.rows c.number group) (newest : CountsNewest c)
-    (tells : AllByRecursion TellsWords group.entries) (shows : Shows c contents) where
+    (tells : AllByRecursion TellsWords group.entries) (shows : ContentsShow c contents) where
   abbrev roots : ℕ
   roots = whole_roots c.sizes (length contents)
 
@@ -174,7 +176,8 @@ module _ (c : Committed) (group : Handed) (contents : List ℕ) (right : IsCommi
       ++ plan_at to.geometry to.half to.end to.number roots group.entries
 
   record GoesBy (t : Bool) : Type 0 where
-    ready : IsReady (Holds c) (Shows (committed_after (ready_by c group right is next t) group))
+    ready : IsReady (HoldsCommitted c)
+        (ContentsShow (committed_after (ready_by c group right is next t) group))
         (length (gone_through (plan_by t) contents)) (plan_by t) contents
     roots_are : roots_then roots group
         ≡ whole_roots c.sizes (length (gone_through (plan_by t) contents))
@@ -206,13 +209,15 @@ module _ (c : Committed) (group : Handed) (contents : List ℕ) (right : IsCommi
             (plan_at c.sizes d.framing.counting
             (1 + slots_of_rows (bare c.rows)) c.number roots
             group.entries)
-            (subst (λ (n : ℕ). IsReady (Holds c) (Shows (committed_after d group)) n
+            (subst (λ (n : ℕ). IsReady (HoldsCommitted c) (ContentsShow (committed_after d group)) n
             (plan_at c.sizes d.framing.counting
             (1 + slots_of_rows (bare c.rows)) c.number roots
             group.entries) there) (ap length (sym same))
-            (subst (λ (l : List Stage). IsReady (Holds c) (Shows (committed_after d group))
+            (subst (λ (l : List Stage). IsReady (HoldsCommitted c)
+            (ContentsShow (committed_after d group))
             (length (gone_through (group_plan d (length there) group.entries) there)) l there)
-            plan_is (ready_less (Holds d) (Holds c) (Shows (committed_after d group))
+            plan_is (ready_less (HoldsCommitted d) (HoldsCommitted c)
+            (ContentsShow (committed_after d group))
             (λ x held. record {
               framing = held.framing;
               right = held.right;

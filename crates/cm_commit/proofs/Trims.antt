@@ -1,4 +1,4 @@
--- A trim: how many roots rows use, and what stands while the file is cut behind these.
+-- A trim: how many roots rows use, and what holds while the file is truncated after these.
 -- For `Committer::advance`, `Committer::roots`, `Committer::trim`, `trims_stand`.
 use Rattle.std.proofs.Common.{◌≡◌, ℕ, ◌+◌, ◌<◌, ◌≤◌, ◌^◌, inl, inr, Bool, true, false, List, []}
 use Rattle.std.proofs.Common.{◌∷◌, length, take, refl, sym, ap, ◌∙◌, arith}
@@ -15,7 +15,7 @@ use Rattle.cm_layout.specs.Rows.{classes_in, rows_with}
 use Rattle.cm_layout.specs.Framing.{needs}
 use Rattle.cm_guards.specs.Guards.{Agrees}
 use Rattle.cm_commit.specs.Committed.{Committed}
-use Rattle.cm_commit.specs.Guarding.{IsCommitted, Shows, guard_of}
+use Rattle.cm_commit.specs.Guarding.{IsCommitted, ContentsShow, guard_of}
 use Rattle.cm_commit.specs.GroupPlans.{whole_roots}
 use Rattle.cm_commit.specs.Laws.{TrimsStand}
 use Rattle.cm_commit.specs.Trims.{roots_of_rows}
@@ -27,7 +27,7 @@ use Rattle.cm_commit.proofs.Roots.{whole-is, root_some}
 
 -- ---- how many roots
 
--- with what is kept, as without
+-- the same with what is kept as without
 pub roots-with : {P : Type 0} (f : P → List ℕ) (rows : List (Row P))
     → roots_of_rows (rows_with f rows) ≡ roots_of_rows rows
 roots-with f [] = refl
@@ -92,7 +92,7 @@ needs_used sizes (Class r words ∷ rows) =
 -- ---- the cut
 
 module _ (c : Committed) (contents : List ℕ) (right : IsCommitted c)
-    (shows : Shows c contents) where
+    (shows : ContentsShow c contents) where
   abbrev end : ℕ
   end = root_at c.sizes (roots_of_rows c.rows)
 

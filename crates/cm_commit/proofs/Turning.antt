@@ -23,11 +23,11 @@ use Rattle.cm_layout.specs.Framing.{part, used_size, needs}
 use Rattle.cm_layout.proofs.{length-blank, classes-bare}
 use Rattle.cm_guards.specs.Guards.{IsApart}
 use Rattle.cm_guards.specs.Gates.{OneOf}
-use Rattle.cm_guards.specs.Plans.{Write, Fits, written, CanWrite}
+use Rattle.cm_guards.specs.Plans.{Write, WriteFits, written, CanWrite}
 use Rattle.cm_guards.proofs.{kept_by_plan, overwritten_size}
 use Rattle.cm_group.specs.Groups.{Handed, IsGroup, entries_in}
 use Rattle.cm_commit.specs.Committed.{Committed, end_slot, with_group}
-use Rattle.cm_commit.specs.Guarding.{guard_of, Shows, IsCommitted, CountsNewest}
+use Rattle.cm_commit.specs.Guarding.{guard_of, ContentsShow, IsCommitted, CountsNewest}
 use Rattle.cm_commit.specs.Offers.{IsNext, rows_after_group, committed_after}
 use Rattle.cm_commit.specs.GroupPlans.{group_writes, root_writes, all_writes, record_writes}
 use Rattle.cm_commit.specs.GroupPlans.{slots_write}
@@ -125,7 +125,7 @@ module _ (c : Committed) (group : Handed) (right : IsCommitted c) (next : IsNext
 
   -- ---- the plan
 
-  module _ (contents : List ℕ) (shows : Shows c contents) where
+  module _ (contents : List ℕ) (shows : ContentsShow c contents) where
     abbrev len : ℕ
     len = length contents
 
@@ -164,7 +164,7 @@ module _ (c : Committed) (group : Handed) (right : IsCommitted c) (next : IsNext
         (can-records c c.number c.rows group.entries (size_after roots len) right
         (counted-held c.sizes contents c.rows shows.records) next.entries grown)
 
-    can-slots : Fits (guard_of c) slots (size_after (roots ++ records) len)
+    can-slots : WriteFits (guard_of c) slots (size_after (roots ++ records) len)
     can-slots =
         let half = half_ends c.sizes c.framing.counting in
         let more = size_after-grows (roots ++ records) len in
@@ -194,9 +194,9 @@ module _ (c : Committed) (group : Handed) (right : IsCommitted c) (next : IsNext
         written-append (roots ++ records) (slots ∷ []) contents
         ∙ ap (overwritten slots.at slots.bytes) (written-append roots records contents)
 
-    shows-base : Shows c base
+    shows-base : ContentsShow c base
     shows-base =
-        kept_by_plan (guard_of c) (Shows c) (group_writes c len group.entries) contents
+        kept_by_plan (guard_of c) (ContentsShow c) (group_writes c len group.entries) contents
         (guarded c right) long can-all shows
 
     roots-long : length with_roots ≡ size_after roots len
@@ -216,7 +216,8 @@ module _ (c : Committed) (group : Handed) (right : IsCommitted c) (next : IsNext
 
       held-records : HoldRows c.sizes with_records after
       held-records =
-          let there = kept_by_plan (guard_of c) (Shows c) roots contents (guarded c right) long
+          let there = kept_by_plan (guard_of c) (ContentsShow c) roots contents (guarded c right)
+          long
           can-first
           shows in
           (records-stand c.sizes c.number c.rows c.rows group.entries with_roots (are_kept c right)
@@ -268,7 +269,7 @@ module _ (c : Committed) (group : Handed) (right : IsCommitted c) (next : IsNext
           sym shorter
           ∙ (ap (take (length front)) slots-written ∙ take_at front shut (length front) refl)
 
-      -- the byte behind the group, where the half goes on
+      -- the byte after the group, if the half continues there
       byte-behind : nat_lt (slot + slots_of_entries es + 1) c.sizes.slots ≡ true
           → get_or base (gate_at c + 1 + length front) 0 ≡ 0
       byte-behind goes_on =
@@ -325,20 +326,22 @@ module _ (c : Committed) (group : Handed) (right : IsCommitted c) (next : IsNext
           let half = half_ends c.sizes c.framing.counting in
           omega (arith, gate-is, gate.within, half, shows-base.long, needs_roots c.sizes c.rows)
 
-      opened : Shows (committed_after c group) (set base (gate_at c) open_gate)
+      opened : ContentsShow (committed_after c group) (set base (gate_at c) open_gate)
       opened =
           turns_open c.sizes c.framing (with_group c.framing es) c.rows after (gate_at c)
           (length front)
           front base gate gate-inside shows-base ready
 
-      with_byte : (b : ℕ) → OneOf (Shows c) (Shows (committed_after c group))
+      with_byte : (b : ℕ) → OneOf (ContentsShow c) (ContentsShow (committed_after c group))
           (set base (gate_at c) b)
       with_byte b = by_test (eqb b open_gate) refl
         where
           by_test : (t : Bool) → eqb b open_gate ≡ t
-              → OneOf (Shows c) (Shows (committed_after c group)) (set base (gate_at c) b)
+              → OneOf (ContentsShow c) (ContentsShow (committed_after c group))
+              (set base (gate_at c) b)
           by_test true e = record {
-            which = inr (subst (λ (k : ℕ). Shows (committed_after c group) (set base (gate_at c) k))
+            which = inr (subst (λ (k : ℕ). ContentsShow (committed_after c group)
+                (set base (gate_at c) k))
                 (sym (eqb-true b open_gate e)) opened);
           }
           by_test false e = record {

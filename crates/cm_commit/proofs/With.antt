@@ -1,4 +1,4 @@
--- Rows with something else kept of each class.
+-- Rows that keep something else of each class.
 -- For `Committer::advance`, `Committer::new`, `add_rows`, `may_join`, `renewed` and others.
 use Rattle.std.proofs.Common.{◌≡◌, ℕ, Bool, true, false, cond, List, [], ◌∷◌, ◌++◌, refl}
 use Rattle.std.proofs.Common.{ap, ◌∙◌}
@@ -91,7 +91,7 @@ slots-with f (Loader r ∷ rows) =
 slots-with f (Class r p ∷ rows) =
     ap (λ (l : List ℕ). class_slot r ++ l) (slots-with f rows)
 
--- nor does it take one
+-- what is kept of a class takes no slot
 pub counted-with : {P Q : Type 0} (f : P → Q) (rows : List (Row P))
     → slots_of_rows (bare (rows_with f rows)) ≡ slots_of_rows rows
 counted-with f rows = slots-bare (rows_with f rows) ∙ slots_of-with f rows

@@ -50,7 +50,7 @@ written-size g (w ∷ writes) contents can =
 
 -- ---- one write
 
--- its bytes stand in its place
+-- its bytes are then in its place
 pub part-written : (at : ℕ) (bytes old : List ℕ) → at ≤ length old
     → part at (length bytes) (overwritten at bytes old) ≡ bytes
 part-written at bytes old le =

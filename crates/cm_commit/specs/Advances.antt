@@ -1,7 +1,7 @@
 -- What one step of a committer does.
 use Rattle.std.specs.Prelude.{◌≡◌, ℕ, ◌+◌, ◌≤◌, ◌<◌, Bool, true, false, [], length, Some, None}
 use Rattle.std.specs.Prelude.{Result, Ok, Err, List}
-use Rattle.cm_disk.specs.Disk.{Unsynced, IsSettled}
+use Rattle.cm_disk.specs.Disk.{Unsynced, IsDurable}
 use Rattle.cm_pool.specs.Geometry.{Sizes}
 use Rattle.cm_layout.specs.Offsets.{root_at}
 use Rattle.cm_layout.specs.Rows.{bare}
@@ -12,7 +12,7 @@ use Rattle.cm_commit.specs.declared.progress.Progress.TheVariants.{Idle, Working
 use Rattle.cm_commit.specs.declared.progress.AdvanceFault.{AdvanceFault}
 use Rattle.cm_commit.specs.declared.progress.AdvanceFault.TheVariants.{Device, Broken}
 use Rattle.cm_guards.specs.Stages.{calls_left, after_call}
-use Rattle.cm_commit.specs.declared.journal.Journal.{Journal}
+use Rattle.cm_commit.specs.declared.journal_end.JournalEnd.{JournalEnd}
 use Rattle.cm_commit.specs.Offers.{rows_after_group}
 use Rattle.cm_commit.specs.Checkpoints.{target_of}
 use Rattle.cm_commit.specs.States.{Storing, Trimming, CommitterState, journal_at}
@@ -30,8 +30,8 @@ pub record Works {D : Type 0} (old new : CommitterState D) : Type 0 where
   pub more : 2 ≤ calls_left old.left
   pub new_is : new ≡ record old { disk = new.disk; left = after_call old.left }
 
--- once a group is committed, of so many slots, which went where the journal goes on so
-abbrev pub with_committed : {D : Type 0} → CommitterState D → Journal → Handed → D
+-- the committer once a group is committed that was written where this journal ends
+abbrev pub with_committed : {D : Type 0} → CommitterState D → JournalEnd → Handed → D
     → CommitterState D
 with_committed s to group disk = record s {
   disk = disk;
@@ -45,7 +45,7 @@ with_committed s to group disk = record s {
   left = [];
 }
 
--- the last call is made: the group is committed, and its last number is told
+-- the last call is made: the group is committed, and its last number is returned
 pub record Finishes {D : Type 0} (old : CommitterState D) (receipt : Receipt)
     (new : CommitterState D) : Type 0 where
   pub sound : old.broken ≡ false
@@ -56,7 +56,7 @@ pub record Finishes {D : Type 0} (old : CommitterState D) (receipt : Receipt)
   pub new_is : new ≡ with_committed old
       (target_of (journal_at old) (bare old.rows) group.entries) group new.disk
 
--- the last call of a trim is made, and the roots are told that rows use
+-- the last call of a trim is made, and the number of roots that rows use is returned
 pub record Trims {D : Type 0} (old : CommitterState D) (roots : ℕ)
     (new : CommitterState D) : Type 0 where
   pub sound : old.broken ≡ false
@@ -66,12 +66,12 @@ pub record Trims {D : Type 0} (old : CommitterState D) (roots : ℕ)
   pub new_is : new ≡ record old { disk = new.disk; underway = None; left = [] }
 
 -- the call failed
-pub record Breaks {D : Type 0} (old new : CommitterState D) : Type 0 where
+pub record CallFails {D : Type 0} (old new : CommitterState D) : Type 0 where
   pub sound : old.broken ≡ false
   pub some : 1 ≤ calls_left old.left
   pub new_is : new ≡ record old { disk = new.disk; broken = true }
 
--- an earlier one had: no call, no change
+-- an earlier call failed: no call, no change
 pub record StaysBroken {D : Type 0} (old new : CommitterState D) : Type 0 where
   pub broken : old.broken ≡ true
   pub stays : new ≡ old
@@ -82,11 +82,11 @@ Advances old (Ok Idle) new = Rests old new
 Advances old (Ok Working) new = Works old new
 Advances old (Ok (Done receipt)) new = Finishes old receipt new
 Advances old (Ok (Trimmed roots)) new = Trims old roots new
-Advances old (Err Device) new = Breaks old new
+Advances old (Err Device) new = CallFails old new
 Advances old (Err Broken) new = StaysBroken old new
 
--- Where nothing is left, or an earlier call failed, no device call is made. Else exactly one is,
--- which fails exactly where a device fault is told.
+-- If nothing is left, or an earlier call failed, no device call is made. Otherwise exactly one is
+-- made, and it fails exactly if a device fault is returned.
 abbrev pub CallsDevice : {D : Type 0} → (D → D → Bool → Type 0) → D → Result Progress AdvanceFault
     → D → Type 0
 CallsDevice called old (Ok Idle) new = new ≡ old
@@ -96,16 +96,16 @@ CallsDevice called old (Ok (Trimmed roots)) new = called old new true
 CallsDevice called old (Err Device) new = called old new false
 CallsDevice called old (Err Broken) new = new ≡ old
 
--- after a trim the file ends where the last root does that rows use, and all of it is stored
+-- after a trim the file ends with the last root that rows use, and all of it is durable
 abbrev pub EndsBehind : Sizes → List ℕ → Unsynced → Result Progress AdvanceFault → Type 0
 EndsBehind sizes contents unsynced (Ok Idle) = Unit {0}
 EndsBehind sizes contents unsynced (Ok Working) = Unit {0}
 EndsBehind sizes contents unsynced (Ok (Done receipt)) = Unit {0}
 EndsBehind sizes contents unsynced (Ok (Trimmed roots)) =
-    (length contents ≡ root_at sizes roots) × IsSettled contents unsynced
+    (length contents ≡ root_at sizes roots) × IsDurable contents unsynced
 EndsBehind sizes contents unsynced (Err fault) = Unit {0}
 
--- The count of failures doesn't fall, and a device fault is told only where it rose.
+-- The count of failures doesn't fall, and a device fault is returned only if it rose.
 abbrev pub IsDevice : Result Progress AdvanceFault → Type 0
 IsDevice (Ok progress) = ⊥
 IsDevice (Err Device) = Unit {0}

@@ -1,7 +1,7 @@
--- A checkpoint: the half of the journal that doesn't count is written anew, with the rows that
--- live, and counts from then on. It takes six device calls: the other half's gate is shut, or where
--- it is shut already, all is synced in place of that (a shut gate that is written over could come
--- out open); a sync; the half behind its gate, with one slot of zeros behind the rows; a sync; the
+-- A checkpoint: the half of the journal that doesn't count is written anew, with the live rows, and
+-- counts from then on. It takes six device calls: the other half's gate is shut or, if it is shut
+-- already, all is synced instead (overwriting a shut gate could leave it open after a crash); a
+-- sync; the half from the byte after its gate, with one slot of zeros after the rows; a sync; the
 -- open gate's byte; a sync.
 use Rattle.std.specs.Prelude.{ℕ, ◌+◌, Bool, true, false, List, [], ◌∷◌, ◌++◌, Some, nat_le}
 use Rattle.std.specs.Prelude.{if◌then◌else◌}
@@ -18,12 +18,12 @@ use Rattle.cm_layout.specs.Zeros.{blank}
 use Rattle.cm_guards.specs.Plans.{Write}
 use Rattle.cm_guards.specs.Stages.{Stage, Store, Turn}
 use Rattle.cm_group.specs.Groups.{Carried, slots_taken}
-use Rattle.cm_commit.specs.declared.journal.Journal.{Journal}
+use Rattle.cm_commit.specs.declared.journal_end.JournalEnd.{JournalEnd}
 use Rattle.cm_commit.specs.Committed.{Committed, journal_of}
 
 -- ---- the half that is written
 
--- the head of a half that is written anew over one of this epoch
+-- the head of a half that is written anew when the other half has this epoch
 abbrev pub next_head : ℕ → ℕ → List BareRow → HalfHead
 next_head epoch number rows = record {
   version = entry_version;
@@ -32,7 +32,7 @@ next_head epoch number rows = record {
   base = number;
 }
 
--- the bytes behind its gate: the rest of its head, the live rows, a slot of zeros
+-- the bytes after its gate: the remainder of its head, the live rows, a slot of zeros
 abbrev pub half_behind_gate : HalfHead → List BareRow → List ℕ
 half_behind_gate head rows = half_head_rest head ++ (flat_map row_slots rows ++ blank slot_size)
 
@@ -46,7 +46,7 @@ half_write sizes half head rows =
 abbrev pub shut_gate : ℕ
 shut_gate = 0
 
--- what shuts the half's gate, where it is open or not
+-- what shuts the half's gate, which may be open or not
 abbrev pub shut_stages : Bool → ℕ → List Stage
 shut_stages true gate = Turn gate shut_gate ∷ []
 shut_stages false gate = Store [] ∷ Store [] ∷ []
@@ -61,24 +61,24 @@ abbrev pub checkpoint_stages : Sizes → Half → Bool → HalfHead → List Bar
 checkpoint_stages sizes half is_open head rows =
     shut_stages is_open (half_at sizes half) ++ half_stages sizes half head rows
 
--- the one after which a journal with these live rows goes on in its other half
-abbrev pub checkpoint_of : Journal → List BareRow → List Stage
+-- the checkpoint after which a journal with these live rows continues in its other half
+abbrev pub checkpoint_of : JournalEnd → List BareRow → List Stage
 checkpoint_of j rows =
     checkpoint_stages j.geometry (other_half j.half) j.other_open (next_head j.epoch j.number rows)
     rows
 
--- ---- when there is one
+-- ---- when a checkpoint is due
 
--- A group has no room between the end of the half that counts and the last slot: it takes a slot
--- for its head, and those of its entries.
+-- A checkpoint is due if a group has no room between the end of the half that counts and the last
+-- slot: it takes a slot for its head, and those of its entries.
 abbrev pub is_due_at : Sizes → ℕ → List Carried → Bool
 is_due_at sizes end carried = nat_le sizes.slots (end + slots_taken carried)
 
-abbrev pub is_due : Journal → List Carried → Bool
+abbrev pub is_due : JournalEnd → List Carried → Bool
 is_due j carried = is_due_at j.geometry j.end carried
 
--- where the journal goes on after a checkpoint with these live rows
-abbrev pub renewed_journal : Journal → List BareRow → Journal
+-- where the journal continues after a checkpoint with these live rows
+abbrev pub renewed_journal : JournalEnd → List BareRow → JournalEnd
 renewed_journal j rows = record j {
   half = other_half j.half;
   end = 1 + slots_of_rows rows;
@@ -86,14 +86,14 @@ renewed_journal j rows = record j {
   other_open = true;
 }
 
--- where a group goes
-abbrev pub target_of : Journal → List BareRow → List Carried → Journal
+-- where a group is written
+abbrev pub target_of : JournalEnd → List BareRow → List Carried → JournalEnd
 target_of j rows carried = if is_due j carried then renewed_journal j rows else j
 
 -- ---- what is committed
 
--- What is committed is the same after a checkpoint, but for the halves: the one that counted is the
--- older one now.
+-- What is committed is the same after a checkpoint, except for the halves: the one that counted is
+-- now the older one.
 abbrev pub renewed_framing : Committed → Framing
 renewed_framing c = record {
   counting = other_half c.framing.counting;

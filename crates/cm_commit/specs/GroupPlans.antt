@@ -1,5 +1,5 @@
 -- The device calls that store a group, in their order: zeros for each root by which the file grows,
--- the records, the slots behind the gate with a shut slot behind them, a sync, the gate, a sync.
+-- the records, the slots after the gate with a shut slot after them, a sync, the gate, a sync.
 use Rattle.std.specs.Prelude.{ℕ, zero, suc, ◌+◌, ◌-◌, ◌/◌, max, List, [], ◌∷◌, ◌++◌, map}
 use Rattle.std.specs.Prelude.{nat_lt, if◌then◌else◌}
 use Rattle.std.specs.List.{flat_map}
@@ -18,7 +18,7 @@ use Rattle.cm_layout.specs.Zeros.{blank}
 use Rattle.cm_guards.specs.Plans.{Write}
 use Rattle.cm_group.specs.Groups.{Carried, entries_in}
 use Rattle.cm_guards.specs.Stages.{Stage, Store, Turn}
-use Rattle.cm_commit.specs.declared.journal.Journal.{Journal}
+use Rattle.cm_commit.specs.declared.journal_end.JournalEnd.{JournalEnd}
 use Rattle.cm_commit.specs.Committed.{Committed, end_slot}
 use Rattle.cm_commit.specs.Checkpoints.{checkpoint_of, is_due, target_of}
 
@@ -28,7 +28,7 @@ use Rattle.cm_commit.specs.Checkpoints.{checkpoint_of, is_due, target_of}
 abbrev pub whole_roots : Sizes → ℕ → ℕ
 whole_roots sizes len = (len - roots_at sizes) / root_size sizes
 
--- how many roots the records of a group need: one more than the greatest
+-- how many roots the records of an entry need, and those of a group: one more than the greatest
 abbrev pub roots_of_entry : {P : Type 0} → Entry P → ℕ
 roots_of_entry (entry.Live (Loader r)) = 0
 roots_of_entry (entry.Live (Class r p)) = r.place.chunk.root + 1
@@ -61,7 +61,7 @@ writes_of (entry.Unload e) moved = []
 writes_of (entry.Move e) moved = move_writes e.to 0 moved
 writes_of (entry.UnloadAll e) moved = []
 
--- in the order of the entries
+-- what a group writes, in the order of the entries
 abbrev pub all_writes : List Carried → List (Place × List ℕ)
 all_writes carried = flat_map (λ c. writes_of c.entry c.moved) carried
 
@@ -74,11 +74,11 @@ record_writes sizes writes = map (λ w. place_write sizes w.0 w.1) writes
 
 -- ---- slots
 
--- a shut slot behind a group, where the half has one
+-- a shut slot after a group, if the half has one
 abbrev pub shut_slot : Sizes → ℕ → List ℕ
 shut_slot sizes slot = if nat_lt slot sizes.slots then blank slot_size else []
 
--- a group's slots from byte 1 on, and the one behind them; the first has the number behind n
+-- a group's slots from byte 1 on, and the one after them; its first entry has the number after n
 abbrev pub slots_behind_gate : ℕ → List BareEntry → List ℕ
 slots_behind_gate n entries =
     group_head_rest (record { count = slots_of_entries entries; first = n + 1 })
@@ -92,8 +92,9 @@ slots_write sizes half slot n entries = record {
 
 -- ---- the plan
 
--- The writes of a group's that are left, where the group begins at this slot behind the n-th
--- command: the file has so many whole roots by now, and the last of the records aren't written yet.
+-- The writes of a group that are left, if the group begins at this slot after the n-th command, the
+-- file has this many whole roots by now, and the last of the records, `unwritten`, aren't written
+-- yet.
 abbrev pub writes_left : Sizes → Half → ℕ → ℕ → List Carried → ℕ → List (Place × List ℕ)
     → List Write
 writes_left sizes half slot n carried roots unwritten =
@@ -101,17 +102,17 @@ writes_left sizes half slot n carried roots unwritten =
     ++ record_writes sizes unwritten
     ++ slots_write sizes half slot n (entries_in carried) ∷ []
 
--- all of them, and then the gate
+-- all of these writes, and then the gate
 abbrev pub plan_at : Sizes → Half → ℕ → ℕ → ℕ → List Carried → List Stage
 plan_at sizes half slot n roots carried =
     Store (writes_left sizes half slot n carried roots (all_writes carried))
     ∷ Turn (slot_at sizes half slot) open_gate ∷ []
 
--- where the gate of a group stands
+-- where the gate of a group is
 abbrev pub gate_at : Committed → ℕ
 gate_at c = slot_at c.sizes c.framing.counting (end_slot c.framing)
 
--- the writes, for a file of this length
+-- the group's writes, for a file of this length
 abbrev pub group_writes : Committed → ℕ → List Carried → List Write
 group_writes c len carried =
     writes_left c.sizes c.framing.counting (end_slot c.framing) c.number carried
@@ -124,10 +125,9 @@ group_plan c len carried =
 
 -- ---- with a checkpoint
 
--- What stores a group, where the journal goes on so, its live rows are these, and the file has so
--- many whole roots: a checkpoint where the half that counts has no room for the group, and then the
--- group.
-abbrev pub plan_of : Journal → List BareRow → ℕ → List Carried → List Stage
+-- What stores a group, given where the journal continues, its live rows, and how many whole roots
+-- the file has: a checkpoint if the half that counts has no room for the group, and then the group.
+abbrev pub plan_of : JournalEnd → List BareRow → ℕ → List Carried → List Stage
 plan_of j rows roots carried =
     let to = target_of j rows carried in
     (if is_due j carried then checkpoint_of j rows else [])

@@ -1,5 +1,5 @@
--- Whether entries may join what is committed, as tests. The classes that they make are new in their
--- loaders, told by what is committed and by the entries before them; and they write where they may.
+-- Tests of whether entries may join what is committed. The classes that they make are new in their
+-- loaders, by what is committed and by the entries before them; and they write only where they may.
 use Rattle.std.specs.Prelude.{ℕ, ◌+◌, Bool, true, false, ◌&&◌, ◌==◌, not, is_none}
 use Rattle.std.specs.Prelude.{◌≡◌, List, [], ◌∷◌, ◌++◌, if◌then◌else◌}
 use Rattle.std.specs.Str.{bytes_eq}
@@ -24,14 +24,14 @@ use Rattle.cm_commit.specs.Offers.{carries_own, writes_apart}
 
 -- ---- names of classes
 
--- the class is of this name, in the loader of this number
-abbrev pub is_named : ℕ → List ℕ → ClassRow × List ℕ → Bool
-is_named u name class =
+-- the class has this name, in the loader of this number
+abbrev pub class_is_named : ℕ → List ℕ → ClassRow × List ℕ → Bool
+class_is_named u name class =
     (class.0.loader == u) && bytes_eq (class_name_in class.1) name
 
--- the entry makes one
+-- the entry makes a class of this name in this loader
 abbrev pub makes_class : ℕ → List ℕ → Carried → Bool
-makes_class u name c = option_map_or (is_named u name) (class_made c.entry) false
+makes_class u name c = option_map_or (class_is_named u name) (class_made c.entry) false
 
 -- the loader of this number has no class of this name, neither committed nor by the entries before
 abbrev pub is_new_name : List (Row (List ℕ)) → List Carried → ℕ → List ℕ → Bool
@@ -43,7 +43,7 @@ is_new committed before e =
     option_map_or (λ d. is_new_name committed before d.0.loader (class_name_in d.1)) (class_made e)
     true
 
--- so does each of the entries behind those before
+-- each entry makes only new classes, by what is committed and by the entries before it
 abbrev pub are_new : List (Row (List ℕ)) → List Carried → List Carried → Bool
 are_new committed before [] = true
 are_new committed before (c ∷ carried) =
@@ -52,24 +52,24 @@ are_new committed before (c ∷ carried) =
 -- ---- places of records
 
 -- the chunk that an entry writes into is one that the region can have
-abbrev pub is_inside : Sizes → BareEntry → Bool
-is_inside sizes (entry.Live (Loader r)) = true
-is_inside sizes (entry.Live (Class r p)) = is_chunk sizes r.place.chunk
-is_inside sizes (entry.Unload e) = true
-is_inside sizes (entry.Move e) = is_chunk sizes e.to
-is_inside sizes (entry.UnloadAll e) = true
+abbrev pub entry_is_inside : Sizes → BareEntry → Bool
+entry_is_inside sizes (entry.Live (Loader r)) = true
+entry_is_inside sizes (entry.Live (Class r p)) = is_chunk sizes r.place.chunk
+entry_is_inside sizes (entry.Unload e) = true
+entry_is_inside sizes (entry.Move e) = is_chunk sizes e.to
+entry_is_inside sizes (entry.UnloadAll e) = true
 
 abbrev pub are_inside : Sizes → List Carried → Bool
-are_inside sizes carried = list_all (λ c. is_inside sizes (bare_entry c.entry)) carried
+are_inside sizes carried = list_all (λ c. entry_is_inside sizes (bare_entry c.entry)) carried
 
-abbrev pub are_apart : {P : Type 0} → List (Row P) → List Carried → Bool
-are_apart committed carried =
+abbrev pub entries_are_apart : {P : Type 0} → List (Row P) → List Carried → Bool
+entries_are_apart committed carried =
     list_all (λ c. writes_apart committed (bare_entry c.entry)) carried
 
 -- ---- records that move
 
--- The records on a chunk once an entry is applied, where these were there before: a class that lies
--- at the chunk's begin is the first there, and a move onto it brings all its own.
+-- The records on a chunk once an entry is applied, if these were there before: a class that lies at
+-- the chunk's begin is the first there, and a move onto it brings all its own.
 abbrev pub records_then : Chunk → List (List ℕ) → Entry (List ℕ) → List (List ℕ)
     → List (List ℕ)
 records_then c records (entry.Live (Loader r)) moved = records
@@ -86,15 +86,15 @@ records_after c records [] = records
 records_after c records (k ∷ carried) =
     records_after c (records_then c records k.entry k.moved) carried
 
--- those on a loader's last chunk, by what is committed
+-- the records on a loader's last chunk, by what is committed
 abbrev pub committed_on : {P : Type 0} → ℕ → Chunk → List (Row P) → List P
 committed_on u c committed = if is_last_chunk u c committed then kept_on c committed else []
 
--- and by the entries before
+-- the same, by the entries before as well
 abbrev pub records_on : List (Row (List ℕ)) → List Carried → ℕ → Chunk → List (List ℕ)
 records_on committed before u c = records_after c (committed_on u c committed) before
 
--- a move carries these
+-- a move carries the records on the chunk that it leaves
 abbrev pub MovesThem : List (Row (List ℕ)) → List Carried → Entry (List ℕ) → List (List ℕ)
     → Type 0
 MovesThem committed before (entry.Live row) moved = Unit {0}
@@ -103,18 +103,18 @@ MovesThem committed before (entry.Move e) moved =
     moved ≡ records_on committed before e.loader e.from
 MovesThem committed before (entry.UnloadAll e) moved = Unit {0}
 
--- so does each of the entries behind those before
+-- each move among the entries does, by what is committed and by the entries before it
 abbrev pub AllMoveThem : List (Row (List ℕ)) → List Carried → List Carried → Type 0
 AllMoveThem committed before [] = Unit {0}
 AllMoveThem committed before (c ∷ carried) =
     MovesThem committed before c.entry c.moved × AllMoveThem committed (before ++ c ∷ []) carried
 
--- ---- all of it
+-- ---- the whole test
 
--- they carry the records that they need (those that move left out), keep the rules, write apart,
--- and their classes are new
+-- the entries carry the records that they need (those of moves are checked apart), keep the rules
+-- and write apart, and their classes are new
 abbrev pub may_join : Sizes → List (Row (List ℕ)) → ℕ → List Carried → Bool
 may_join sizes committed n carried =
     list_all carries_own carried
     && (keep_rules sizes (bare committed) (n + 1) (entries_in carried)
-    && (are_apart committed carried && are_new committed [] carried))
+    && (entries_are_apart committed carried && are_new committed [] carried))

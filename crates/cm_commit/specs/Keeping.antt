@@ -7,14 +7,15 @@ use Rattle.cm_layout.specs.Frames.{BareRow, BareEntry}
 use Rattle.cm_rows.specs.Rows.{LiveRows, is_above}
 use Rattle.cm_group.specs.Groups.{Carried, entries_in}
 
--- whether each does on the rows that those before it leave; the first has this number
+-- whether each entry keeps the rules on the rows that those before it leave; the first has this
+-- number
 abbrev pub keep_rules : Sizes → List BareRow → ℕ → List BareEntry → Bool
 keep_rules sizes rows number [] = true
 keep_rules sizes rows number (e ∷ entries) =
     is_none (broken_rule sizes rows number e)
     && keep_rules sizes (rows_after rows e) (number + 1) entries
 
--- The first so many of some carried entries are applied, and the next one has this number.
+-- The first `count` of some carried entries are applied, and the next one has the number `number`.
 pub record AreApplied (old : LiveRows (Unit {0})) (first : ℕ) (carried : List Carried)
     (new : LiveRows (Unit {0})) (number count : ℕ) : Type 0 where
   pub sizes : new.sizes ≡ old.sizes

@@ -1,27 +1,27 @@
--- What a committer keeps.
+-- The invariant of a committer.
 use Rattle.std.specs.Prelude.{◌≡◌, ℕ, ◌^◌, ◌≤◌, max, Bool, true, false, List, [], length}
 use Rattle.std.specs.Prelude.{Option, Some, None}
 use Rattle.std.specs.List.{AllByRecursion}
-use Rattle.cm_disk.specs.Disk.{View, Unsynced, IsSettled}
+use Rattle.cm_disk.specs.Disk.{View, Unsynced, IsDurable}
 use Rattle.cm_pool.specs.Geometry.{Sizes}
 use Rattle.cm_layout.specs.declared.row.Row.{Row}
 use Rattle.cm_layout.specs.declared.row.Row.TheVariants.{Loader, Class}
 use Rattle.cm_layout.specs.Offsets.{half_size, root_at, root_size}
 use Rattle.cm_layout.specs.Rows.{bare}
 use Rattle.cm_layout.specs.Frames.{entry_version}
-use Rattle.cm_layout.specs.Framing.{Framing, IsRight, Matches}
+use Rattle.cm_layout.specs.Framing.{Framing, IsRightFraming, Matches}
 use Rattle.cm_guards.specs.Guards.{EachImage}
 use Rattle.cm_guards.specs.Stages.{Stage, StagesStand, leaves}
 use Rattle.cm_group.specs.Groups.{Handed, IsGroup, AreRight, entries_in}
 use Rattle.cm_rows.specs.Rows.{LiveRows}
 use Rattle.cm_state.specs.State.{words_show}
 use Rattle.cm_state.specs.Entries.{AreCacheRows}
-use Rattle.cm_commit.specs.declared.journal.Journal.{Journal}
+use Rattle.cm_commit.specs.declared.journal_end.JournalEnd.{JournalEnd}
 use Rattle.cm_commit.specs.Committed.{Committed, journal_of}
 use Rattle.cm_commit.specs.Checkpoints.{ready_for}
 use Rattle.cm_commit.specs.Offers.{MayCome, rows_after_group, committed_after}
 use Rattle.cm_commit.specs.GroupPlans.{whole_roots, roots_of_entries}
-use Rattle.cm_commit.specs.Guarding.{Shows, Holds}
+use Rattle.cm_commit.specs.Guarding.{ContentsShow, HoldsCommitted}
 use Rattle.cm_commit.specs.States.{Work, Storing, Trimming, CommitterState, journal_at}
 use Rattle.cm_commit.specs.Trims.{roots_of_rows}
 
@@ -33,12 +33,12 @@ HasItsWords (Class r words) = length words ≡ r.place.words
 abbrev pub AreCounted : List (Row (List ℕ)) → Type 0
 AreCounted rows = AllByRecursion HasItsWords rows
 
--- Contents hold the cache of these rows, and the journal goes on there: they match a framing whose
--- halves are as the journal says, the one that counts of this version, they have so many whole
--- roots, and all of it is stored.
-pub record IsHeld (contents : List ℕ) (unsynced : Unsynced) (journal : Journal)
+-- Contents hold the cache of these rows, and the journal continues there: they match a framing
+-- whose halves are as the journal says, the half that counts is of this version, the file has this
+-- many whole roots, and all of it is durable.
+pub record IsHeld (contents : List ℕ) (unsynced : Unsynced) (journal : JournalEnd)
     (rows : List (Row (List ℕ))) (roots version : ℕ) : Type 0 where
-  pub settled : IsSettled contents unsynced
+  pub durable : IsDurable contents unsynced
   pub framing : Framing
   pub version_is : framing.head.version ≡ version
   pub journal_is : journal ≡ journal_of (record {
@@ -47,7 +47,7 @@ pub record IsHeld (contents : List ℕ) (unsynced : Unsynced) (journal : Journal
     number = journal.number;
     framing = framing;
   })
-  pub right : IsRight journal.geometry framing rows journal.number
+  pub right : IsRightFraming journal.geometry framing rows journal.number
   pub matches : Matches journal.geometry framing rows contents
   pub cache : AreCacheRows words_show journal.geometry journal.number rows
   pub records : AreRight rows
@@ -56,7 +56,7 @@ pub record IsHeld (contents : List ℕ) (unsynced : Unsynced) (journal : Journal
 
 -- ---- the committer's own
 
--- the rows after what is under way, with nothing kept
+-- the rows after what is under way, without their records
 abbrev pub rows_then : List (Row (List ℕ)) → Option Work → List (Row (List ℕ))
 rows_then rows None = rows
 rows_then rows (Some Trimming) = rows
@@ -70,16 +70,16 @@ roots_then roots group = max roots (roots_of_entries (entries_in group.entries))
 pub record IsIdle (c : Committed) (roots : ℕ) (broken : Bool) (contents : List ℕ)
     (unsynced : Unsynced) : Type 0 where
   pub sound : broken ≡ false
-  pub settled : IsSettled contents unsynced
-  pub shows : Shows c contents
+  pub durable : IsDurable contents unsynced
+  pub shows : ContentsShow c contents
   pub roots_are : roots ≡ whole_roots c.sizes (length contents)
 
--- what stands on the disk between two calls, or after one that failed
+-- what holds of the disk between two calls, or after one that failed
 abbrev pub StandsBroken : Bool → Committed → Committed → ℕ → List Stage → List ℕ → Unsynced → Type 0
 StandsBroken false c next long left contents unsynced =
-    StagesStand (Holds c) (Shows next) long left contents unsynced
+    StagesStand (HoldsCommitted c) (ContentsShow next) long left contents unsynced
 StandsBroken true c next long left contents unsynced =
-    EachImage contents unsynced (leaves left (Holds c) (Shows next))
+    EachImage contents unsynced (leaves left (HoldsCommitted c) (ContentsShow next))
 
 -- a group is under way
 pub record IsBusy (c : Committed) (roots : ℕ) (group : Handed) (left : List Stage) (broken : Bool)
@@ -100,14 +100,15 @@ pub record IsTrimming (c : Committed) (roots : ℕ) (left : List Stage) (broken 
   pub roots_are : roots ≡ roots_of_rows c.rows
   pub stands : StandsBroken broken c c (root_at c.sizes roots) left contents unsynced
 
-abbrev pub IsAt : Committed → ℕ → Option Work → List Stage → Bool → List ℕ → Unsynced → Type 0
-IsAt c roots None left broken contents unsynced = IsIdle c roots broken contents unsynced
-IsAt c roots (Some Trimming) left broken contents unsynced =
+abbrev pub StandsDuring : Committed → ℕ → Option Work → List Stage → Bool → List ℕ → Unsynced
+    → Type 0
+StandsDuring c roots None left broken contents unsynced = IsIdle c roots broken contents unsynced
+StandsDuring c roots (Some Trimming) left broken contents unsynced =
     IsTrimming c roots left broken contents unsynced
-IsAt c roots (Some (Storing group)) left broken contents unsynced =
+StandsDuring c roots (Some (Storing group)) left broken contents unsynced =
     IsBusy c roots group left broken contents unsynced
 
--- how many bytes a root has, or a half, whichever are more
+-- how many bytes a root or a half has, whichever has more
 abbrev pub most_written : Sizes → ℕ
 most_written sizes = max (root_size sizes) (half_size sizes)
 
@@ -122,12 +123,13 @@ pub record IsCommitter {D : Type 0} (view : View D)
     number = s.number;
     framing = framing;
   })
-  pub right : IsRight s.sizes framing s.rows s.number
+  pub right : IsRightFraming s.sizes framing s.rows s.number
   pub cache : AreCacheRows words_show s.sizes s.number s.rows
   pub records : AreRight s.rows
   pub number_is : s.number ≤ 2 ^ 63
   pub sizes_are : sizes ≡ s.sizes
   pub next_is : next ≡ record { sizes = s.sizes; rows = bare (rows_then s.rows s.underway) }
   pub room_is : most_written s.sizes ≤ room
-  pub at : IsAt (record { sizes = s.sizes; rows = s.rows; number = s.number; framing = framing })
+  pub at : StandsDuring
+      (record { sizes = s.sizes; rows = s.rows; number = s.number; framing = framing })
       roots s.underway s.left s.broken (view.contents s.disk) (view.unsynced s.disk)

@@ -1,10 +1,10 @@
--- How the records on a chunk are looked for, from the newest back.
+-- The search for the records on a chunk, from the newest entry back.
 use Rattle.std.specs.Prelude.{◌≡◌, ℕ, List, [], ◌∷◌, ◌++◌, map}
 use Rattle.std.specs.Arc.{arc_value}
 use Rattle.cm_pool.specs.declared.chunk.Chunk.{Chunk}
 use Rattle.cm_group.specs.Groups.{Carried}
-use Rattle.cm_commit.specs.declared.moving.OnChunk.{OnChunk}
-use Rattle.cm_commit.specs.declared.moving.OnChunk.TheVariants.{Same, More, First, All}
+use Rattle.cm_commit.specs.declared.move_records.OnChunk.{OnChunk}
+use Rattle.cm_commit.specs.declared.move_records.OnChunk.TheVariants.{Same, More, First, All}
 use Rattle.cm_commit.specs.Joining.{records_then}
 
 -- the last of the records is this one, and these are before it
@@ -14,7 +14,7 @@ EndsIn records last rest = records ≡ rest ++ last ∷ []
 abbrev pub DoesntEndIn : List (List ℕ) → List ℕ → Type 0
 DoesntEndIn records last = (rest : List (List ℕ)) → EndsIn records last rest → ⊥
 
--- what an entry makes of the records on a chunk
+-- what an entry does to the records on a chunk
 abbrev pub AreThen : Chunk → Carried → OnChunk → Type 0
 AreThen c k Same = (records : List (List ℕ)) → records_then c records k.entry k.moved ≡ records
 AreThen c k (More r) =

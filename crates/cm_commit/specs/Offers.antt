@@ -16,7 +16,7 @@ use Rattle.cm_commit.specs.Committed.{Committed, end_slot, with_group}
 
 -- ---- an entry of a group
 
--- the entry, a class with its record
+-- the entry, with a class's record
 abbrev pub filled : Carried → Entry (List ℕ)
 filled c = c.entry
 
@@ -28,16 +28,16 @@ HasOwn (entry.Unload e) = Unit {0}
 HasOwn (entry.Move e) = Unit {0}
 HasOwn (entry.UnloadAll e) = Unit {0}
 
--- it carries the records that it needs, and no others
+-- the entry carries the records that it needs, and no others
 abbrev pub HasRecords : List (Row (List ℕ)) → Entry (List ℕ) → List (List ℕ) → Type 0
 HasRecords rows e moved = HasOwn e × (moved ≡ moved_with rows e)
 
--- one loader, or as many as go at once
+-- at least one loader, and no more than can be unloaded at once
 abbrev pub are_some : List ℕ → Bool
 are_some loaders = nat_le 1 (length loaders) && nat_le (length loaders) unload_limit
 
--- the same as a test, but for the records that move, which other entries tell; and a list of
--- loaders is one that a slot has room for
+-- the same as a test, except for the records that move, which depend on other entries; and a list
+-- of loaders is one that a slot has room for
 abbrev pub has_own : Entry (List ℕ) → List (List ℕ) → Bool
 has_own (entry.Live (Loader r)) moved = length moved == 0
 has_own (entry.Live (Class r words)) moved =
@@ -49,7 +49,8 @@ has_own (entry.UnloadAll e) moved = (length moved == 0) && are_some e.loaders
 abbrev pub carries_own : Carried → Bool
 carries_own c = has_own c.entry c.moved
 
--- It writes into no chunk that committed rows use, but behind the records on its loader's last one.
+-- The entry writes into no chunk that committed rows use, other than after the records on its
+-- loader's last one.
 abbrev pub writes_apart : {P Q : Type 0} → List (Row P) → Entry Q → Bool
 writes_apart committed (entry.Live (Loader r)) = true
 writes_apart committed (entry.Live (Class r p)) =
@@ -60,15 +61,15 @@ writes_apart committed (entry.Unload e) = true
 writes_apart committed (entry.Move e) = is_unused e.to committed
 writes_apart committed (entry.UnloadAll e) = true
 
--- It keeps the rules on the rows before it, its class is new in its loader, and it writes what it
--- may.
+-- The entry keeps the rules on the rows before it, its class is new in its loader, and it writes
+-- only where it may.
 pub record MayJoin (sizes : Sizes) (committed rows : List (Row (List ℕ))) (n : ℕ)
     (c : Carried) : Type 0 where
   pub follows : MayFollow words_show sizes n rows (filled c)
   pub records : HasRecords rows c.entry c.moved
   pub apart : writes_apart committed c.entry ≡ true
 
--- one after another, the first with the number behind n
+-- the entries may join one after another, where the first has the number after n
 abbrev pub MayJoinAll : Sizes → List (Row (List ℕ)) → List (Row (List ℕ)) → ℕ → List Carried
     → Type 0
 MayJoinAll sizes committed rows n [] = Unit {0}
@@ -78,21 +79,21 @@ MayJoinAll sizes committed rows n (c ∷ carried) =
 
 -- ---- a group
 
--- It goes on where the commands end that are committed, and its entries may join.
+-- The group begins one past the last committed command, and its entries may join.
 pub record MayCome (sizes : Sizes) (rows : List (Row (List ℕ))) (number : ℕ)
     (group : Handed) : Type 0 where
   pub begins : group.first ≡ number + 1
   pub ends : number + length group.entries ≤ 2 ^ 63
   pub entries : MayJoinAll sizes rows rows number group.entries
 
--- So does one that has room in the half that counts, from the slot where that ends.
+-- The same for a group that has room in the half that counts, from the slot where that ends.
 pub record IsNext (c : Committed) (group : Handed) : Type 0 where
   pub begins : group.first ≡ c.number + 1
   pub ends : c.number + length group.entries ≤ 2 ^ 63
   pub entries : MayJoinAll c.sizes c.rows c.rows c.number group.entries
   pub room : end_slot c.framing + slots_taken group.entries < c.sizes.slots
 
--- the rows after it, and all that is committed then
+-- the rows after a group, and all that is committed then
 abbrev pub rows_after_group : List (Row (List ℕ)) → List Carried → List (Row (List ℕ))
 rows_after_group rows carried = rows_after_all rows (map filled carried)
 

@@ -1,4 +1,4 @@
-//! Entries that are applied to a book, one after another.
+//! Applies entries to live rows, one after another.
 
 ghost use Rattle.std.specs.Prelude.{◌≡◌, ◌+◌, ◌^◌, ◌≤◌, IsTrue, length, true};
 ghost use Rattle.std.specs.Arc.{arc_value};
@@ -10,13 +10,13 @@ ghost use Rattle.cm_commit.specs.Keeping.{keep_rules};
 
 use cm_group::CarriedEntry;
 use cm_record::Record;
-use cm_rows::Book;
+use cm_rows::LiveRows;
 use std::alloc::Global;
 use std::sync::Arc;
 
-/// Applies entries, the first of which has this number, and tells whether all keep the rules. Where
-/// one breaks a rule, those before it are applied.
-pub(crate) fn apply_all(book: &mut Book<()>, first: u64, entries: &[CarriedEntry]) -> bool
+/// Applies entries, the first of which has this number, and returns whether all of them keep the
+/// rules. If one breaks a rule, only those before it are applied.
+pub(crate) fn apply_all(book: &mut LiveRows<()>, first: u64, entries: &[CarriedEntry]) -> bool
     requires above { IsTrue (is_above first book.old.rows) }
     requires from { 1 ≤ first }
     requires numbers { first + length entries.now ≤ 2 ^ 63 + 1 }
@@ -38,7 +38,11 @@ pub(crate) fn apply_all(book: &mut Book<()>, first: u64, entries: &[CarriedEntry
 
 /// Applies entries that keep the rules, the first of which has this number, each class with its
 /// record.
-pub(crate) fn fill_all(book: &mut Book<Arc<Record, Global>>, first: u64, entries: Vec<CarriedEntry>)
+pub(crate) fn fill_all(
+    book: &mut LiveRows<Arc<Record, Global>>,
+    first: u64,
+    entries: Vec<CarriedEntry>,
+)
     requires above { IsTrue (is_above first book.old.rows) }
     requires from { 1 ≤ first }
     requires numbers { first + length entries.items ≤ 2 ^ 63 + 1 }

@@ -12,15 +12,15 @@ ghost use Rattle.std.specs.List.{flat_map};
 ghost use Rattle.cm_group.specs.Groups.{entries_in, slots_taken};
 ghost use Rattle.cm_commit.specs.GroupPlans.{slots_behind_gate, shut_slot};
 
-use crate::journal::Journal;
+use crate::journal_end::JournalEnd;
 use cm_group::CarriedEntry;
 use cm_layout::{GroupHead, HalfHead, SLOT_BYTES};
 use cm_record::Record;
-use cm_rows::Book;
+use cm_rows::LiveRows;
 use std::alloc::Global;
 use std::sync::Arc;
 
-/// Puts so many zeros in the place of what is there.
+/// Replaces the buffer's contents with `count` zeros.
 #[tactic(auto, unfolding(cm_layout::specs::Zeros::blank))]
 pub(crate) fn put_zeros(buffer: &mut Vec<u8>, count: usize)
     requires { count ≤ vec_capacity buffer.old }
@@ -31,7 +31,7 @@ pub(crate) fn put_zeros(buffer: &mut Vec<u8>, count: usize)
     buffer.resize(count, 0).unwrap();
 }
 
-/// Puts the bytes of a record in the place of what is there.
+/// Replaces the buffer's contents with the bytes of a record.
 pub(crate) fn put_record(buffer: &mut Vec<u8>, class: &Record)
     requires { 8 * length class.now ≤ vec_capacity buffer.old }
     ensures bytes { buffer.new.items ≡ word_bytes class.now }
@@ -41,7 +41,7 @@ pub(crate) fn put_record(buffer: &mut Vec<u8>, class: &Record)
     class.bytes_into(buffer);
 }
 
-/// Puts the slots of entries behind what is there.
+/// Appends the slots of entries.
 fn add_entries(buffer: &mut Vec<u8>, entries: &[CarriedEntry])
     requires { length buffer.old.items + length (flat_map entry_slots (entries_in entries.now))
         ≤ vec_capacity buffer.old }
@@ -55,7 +55,7 @@ fn add_entries(buffer: &mut Vec<u8>, entries: &[CarriedEntry])
     }
 }
 
-/// Puts the head of a half, behind the byte of its gate, in the place of what is there.
+/// Replaces the buffer's contents with the head of a half, from the byte after its gate.
 fn put_half_head(buffer: &mut Vec<u8>, head: &HalfHead)
     requires { 63 ≤ vec_capacity buffer.old }
     ensures bytes { buffer.new.items ≡ half_head_rest head.now }
@@ -65,8 +65,8 @@ fn put_half_head(buffer: &mut Vec<u8>, head: &HalfHead)
     buffer.extend_from_slice(&head.encode()[1..]).unwrap();
 }
 
-/// Puts the slots of live rows behind what is there.
-fn add_rows(buffer: &mut Vec<u8>, rows: &Book<Arc<Record, Global>>)
+/// Appends the slots of live rows.
+fn add_rows(buffer: &mut Vec<u8>, rows: &LiveRows<Arc<Record, Global>>)
     requires { length buffer.old.items
         + length (flat_map row_slots (bare (rows_with arc_value rows.now.rows)))
         ≤ vec_capacity buffer.old }
@@ -81,9 +81,9 @@ fn add_rows(buffer: &mut Vec<u8>, rows: &Book<Arc<Record, Global>>)
     }
 }
 
-/// Puts a half of the journal, behind the byte of its gate, in the place of what is there: its
-/// head, the live rows, and a shut slot behind them.
-pub(crate) fn put_half(buffer: &mut Vec<u8>, head: &HalfHead, rows: &Book<Arc<Record, Global>>)
+/// Replaces the buffer's contents with a half of the journal, from the byte after its gate: its
+/// head, the live rows, and a shut slot after them.
+pub(crate) fn put_half(buffer: &mut Vec<u8>, head: &HalfHead, rows: &LiveRows<Arc<Record, Global>>)
     requires room { 127 + length (flat_map row_slots (bare (rows_with arc_value rows.now.rows)))
         ≤ vec_capacity buffer.old }
     ensures bytes { buffer.new.items
@@ -95,7 +95,7 @@ pub(crate) fn put_half(buffer: &mut Vec<u8>, head: &HalfHead, rows: &Book<Arc<Re
     add_shut_slot(buffer);
 }
 
-/// Puts the head of a group, behind the byte of its gate, in the place of what is there.
+/// Replaces the buffer's contents with the head of a group, from the byte after its gate.
 fn put_head(buffer: &mut Vec<u8>, head: &GroupHead)
     requires { 63 ≤ vec_capacity buffer.old }
     ensures bytes { buffer.new.items ≡ group_head_rest head.now }
@@ -105,7 +105,7 @@ fn put_head(buffer: &mut Vec<u8>, head: &GroupHead)
     buffer.extend_from_slice(&head.encode()[1..]).unwrap();
 }
 
-/// Puts a shut slot behind what is there.
+/// Appends a shut slot.
 #[tactic(auto, unfolding(cm_layout::specs::Zeros::blank))]
 fn add_shut_slot(buffer: &mut Vec<u8>)
     requires { length buffer.old.items + slot_size ≤ vec_capacity buffer.old }
@@ -115,11 +115,11 @@ fn add_shut_slot(buffer: &mut Vec<u8>)
     buffer.extend_from_slice(&[0; SLOT_BYTES]).unwrap();
 }
 
-/// Puts a group's slots, behind the byte of its gate, in the place of what is there: its head, its
-/// entries, and a shut slot where the half has one behind them.
+/// Replaces the buffer's contents with a group's slots, from the byte after its gate: its head, its
+/// entries, and a shut slot after them if the half has one there.
 pub(crate) fn put_slots(
     buffer: &mut Vec<u8>,
-    journal: Journal,
+    journal: JournalEnd,
     count: u16,
     entries: &[CarriedEntry],
 )

@@ -13,7 +13,7 @@ ghost use Rattle.cm_commit.specs.Steps.{FitsJournal, next_gate, stages_at};
 
 use crate::bytes::{put_record, put_slots, put_zeros};
 use crate::entries::{nth_write, roots_needed};
-use crate::journal::Journal;
+use crate::journal_end::JournalEnd;
 use crate::step::CommitStep;
 use cm_disk::{DeviceFault, Disk};
 use cm_group::Group;
@@ -39,7 +39,7 @@ fn write_root<D: Disk>(
     disk.write_at(root_at(geometry, root), buffer)
 }
 
-/// Writes a record in its place.
+/// Writes a record at its place.
 fn write_record<D: Disk>(
     disk: &mut D,
     buffer: &mut Vec<u8>,
@@ -59,11 +59,11 @@ fn write_record<D: Disk>(
     disk.write_at(record_at(geometry, place), buffer)
 }
 
-/// Writes a group's slots behind the byte of its gate.
+/// Writes a group's slots, from the byte after its gate.
 fn write_slots<D: Disk>(
     disk: &mut D,
     buffer: &mut Vec<u8>,
-    journal: Journal,
+    journal: JournalEnd,
     group: &Group,
 ) -> Result<(), DeviceFault>
     requires room { root_size journal.geometry ≤ vec_capacity buffer.old }
@@ -82,11 +82,11 @@ fn write_slots<D: Disk>(
     disk.write_at(at, buffer)
 }
 
-/// Makes the next of the writes of a group, and tells the step behind it.
+/// Makes the next of the writes of a group and returns the step that follows.
 fn write_next<D: Disk>(
     disk: &mut D,
     buffer: &mut Vec<u8>,
-    journal: Journal,
+    journal: JournalEnd,
     group: &Group,
     roots: u32,
     from: usize,
@@ -125,7 +125,7 @@ fn write_next<D: Disk>(
 }
 
 /// Writes the byte of a group's gate.
-fn write_gate<D: Disk>(disk: &mut D, journal: Journal) -> Result<(), DeviceFault>
+fn write_gate<D: Disk>(disk: &mut D, journal: JournalEnd) -> Result<(), DeviceFault>
     requires fits { TakesWrite (gate_write (next_gate journal) open_gate)
         (length (D.view.contents disk.old)) }
     ensures written { MakesWrite D.view
@@ -136,12 +136,12 @@ fn write_gate<D: Disk>(disk: &mut D, journal: Journal) -> Result<(), DeviceFault
     disk.write_at(gate, &[OPEN_GATE])
 }
 
-/// Makes the next device call of a group, those of a checkpoint left out, and tells the step behind
-/// it.
+/// Makes the next device call of a group, other than those of a checkpoint, and returns the step
+/// that follows.
 pub(crate) fn make_group_call<D: Disk>(
     disk: &mut D,
     buffer: &mut Vec<u8>,
-    journal: Journal,
+    journal: JournalEnd,
     group: &Group,
     now: CommitStep,
 ) -> Result<CommitStep, DeviceFault>

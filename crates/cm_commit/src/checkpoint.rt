@@ -8,33 +8,33 @@ ghost use Rattle.cm_layout.specs.Slots.{open_gate};
 ghost use Rattle.cm_guards.specs.Stages.{MakesWrite, CallsOnce, TakesWrite, TakesCall, after_call};
 ghost use Rattle.cm_guards.specs.Stages.{gate_write, calls_left};
 ghost use Rattle.cm_layout.specs.declared.row.Row.{Row};
-ghost use Rattle.cm_commit.specs.declared.journal.Journal.{Journal};
+ghost use Rattle.cm_commit.specs.declared.journal_end.JournalEnd.{JournalEnd};
 ghost use Rattle.cm_commit.specs.declared.step.CheckpointStep.TheVariants as checkpoint;
 ghost use Rattle.cm_commit.specs.Steps.{FitsHalf, checkpoint_left, checkpoint_rest};
 ghost use Rattle.cm_commit.specs.Steps.{half_gate as gate_of, renewed_write};
 
 use crate::bytes::put_half;
-use crate::journal::{Journal, renewed_head};
+use crate::journal_end::{JournalEnd, renewed_head};
 use crate::step::CheckpointStep;
 use cm_disk::{DeviceFault, Disk};
 use cm_layout::{OPEN_GATE, half_at};
 use cm_record::Record;
-use cm_rows::Book;
+use cm_rows::LiveRows;
 use std::alloc::Global;
 use std::sync::Arc;
 
-/// A byte of a gate that is shut.
+/// The byte of a shut gate.
 const SHUT_GATE: u8 = 0;
 
-/// Where the gate of the half that doesn't count stands.
-fn half_gate(journal: &Journal) -> u64
+/// The position of the gate of the half that doesn't count.
+fn half_gate(journal: &JournalEnd) -> u64
     ensures { result ≡ gate_of journal.now }
 {
     half_at(journal.geometry, journal.half.other())
 }
 
 /// Writes a byte to the gate of the half that doesn't count.
-fn write_gate<D: Disk>(disk: &mut D, journal: &Journal, byte: u8) -> Result<(), DeviceFault>
+fn write_gate<D: Disk>(disk: &mut D, journal: &JournalEnd, byte: u8) -> Result<(), DeviceFault>
     requires fits { TakesWrite (gate_write (gate_of journal.now) byte)
         (length (D.view.contents disk.old)) }
     ensures written { MakesWrite D.view
@@ -44,9 +44,9 @@ fn write_gate<D: Disk>(disk: &mut D, journal: &Journal, byte: u8) -> Result<(), 
     disk.write_at(half_gate(journal), &[byte])
 }
 
-/// Shuts the half that doesn't count, where its gate is open. A gate that is shut isn't written
-/// over, since a crash could leave it open: a sync comes in place of that.
-fn shut<D: Disk>(disk: &mut D, journal: &Journal) -> Result<(), DeviceFault>
+/// Shuts the half that doesn't count, if its gate is open. A gate that is shut isn't overwritten,
+/// since a crash could leave it open: a sync takes the place of that write.
+fn shut<D: Disk>(disk: &mut D, journal: &JournalEnd) -> Result<(), DeviceFault>
     requires fits { (rows : List (Row (Unit {0}))) → TakesCall
         (checkpoint_left journal.now rows checkpoint.Shut) (length (D.view.contents disk.old)) }
     ensures called { (rows : List (Row (Unit {0}))) → CallsOnce D.view
@@ -61,12 +61,13 @@ fn shut<D: Disk>(disk: &mut D, journal: &Journal) -> Result<(), DeviceFault>
     }
 }
 
-/// Writes the half that doesn't count, behind its gate: its head, the live rows, and a shut slot.
+/// Writes the half that doesn't count, from the byte after its gate: its head, the live rows, and a
+/// shut slot.
 fn write_half<D: Disk>(
     disk: &mut D,
     buffer: &mut Vec<u8>,
-    journal: &Journal,
-    rows: &Book<Arc<Record, Global>>,
+    journal: &JournalEnd,
+    rows: &LiveRows<Arc<Record, Global>>,
 ) -> Result<(), DeviceFault>
     requires room { half_size journal.now.geometry ≤ vec_capacity buffer.old }
     requires half { FitsHalf journal.now (bare (rows_with arc_value rows.now.rows)) }
@@ -84,13 +85,13 @@ fn write_half<D: Disk>(
     disk.write_at(half_gate(journal) + 1, buffer)
 }
 
-/// Makes the next device call of a checkpoint, and tells the step behind it, or `None` behind the
-/// last. After that the journal goes on in the other half, behind the live rows.
+/// Makes the next device call of a checkpoint and returns the step that follows, or `None` after
+/// the last. From then on the journal continues in the other half, after the live rows.
 pub(crate) fn make_checkpoint_call<D: Disk>(
     disk: &mut D,
     buffer: &mut Vec<u8>,
-    journal: &Journal,
-    rows: &Book<Arc<Record, Global>>,
+    journal: &JournalEnd,
+    rows: &LiveRows<Arc<Record, Global>>,
     now: CheckpointStep,
 ) -> Result<Option<CheckpointStep>, DeviceFault>
     requires room { half_size journal.now.geometry ≤ vec_capacity buffer.old }
@@ -137,7 +138,7 @@ pub(crate) fn make_checkpoint_call<D: Disk>(
 /// How many device calls of a checkpoint are left at a step.
 pub(crate) fn checkpoint_calls(now: CheckpointStep) -> u64
     ensures few { result ≤ 6 }
-    ensures calls { (j : Journal) (rows : List (Row (Unit {0})))
+    ensures calls { (j : JournalEnd) (rows : List (Row (Unit {0})))
         → result ≡ calls_left (checkpoint_left j rows now) }
 {
     match now {

@@ -13,7 +13,7 @@ ghost use Rattle.cm_commit.specs.Checkpoints.{is_due_at};
 ghost use Rattle.cm_commit.specs.Offers.{rows_after_group};
 ghost use Rattle.cm_commit.specs.GroupPlans.{roots_of_entries, roots_to_add, all_writes};
 ghost use Rattle.cm_commit.specs.Keeping.{keep_rules};
-ghost use Rattle.cm_commit.specs.States.{MayLeave, Takes, with_taken, NoGroup};
+ghost use Rattle.cm_commit.specs.States.{MayLeave, TakesGroup, with_taken, NoGroup};
 ghost use Rattle.cm_commit.specs.States.{BeginsTrim};
 ghost use Rattle.cm_commit.specs.Advances.{Advances, CallsDevice, EndsBehind, HasRisen};
 ghost use Rattle.cm_commit.specs.Trims.{roots_of_rows};
@@ -25,7 +25,7 @@ ghost use Rattle.cm_commit.specs.Keeps.{IsHeld, most_written, roots_then};
 use crate::applying::fill_all;
 use crate::entries::roots_needed;
 use crate::joining::take_group;
-use crate::journal::{Journal, target_of};
+use crate::journal_end::{JournalEnd, target_of};
 use crate::mismatch::Mismatch;
 use crate::plan::{calls_at, first_step, is_done, make_call};
 use crate::progress::{AdvanceFault, NotIdle, Progress};
@@ -36,36 +36,35 @@ use cm_group::{Group, Receipt};
 use cm_layout::{half_bytes, root_bytes};
 use cm_pool::Geometry;
 use cm_record::Record;
-use cm_rows::Book;
+use cm_rows::LiveRows;
 use std::alloc::{AllocError, Global};
 use std::fmt::Debug;
 use std::marker::Model;
 use std::sync::Arc;
 use thiserror::Error;
 
-/// The one that writes groups to a region file: it owns the disk, the rows that are committed with
-/// the records of their classes, and the number of the last command. A group is offered to it, and
-/// then stored by one device call after another. All memory that it will ever need is taken when it
-/// is made.
+/// Writes groups to a region file. It owns the disk, the committed rows with the records of their
+/// classes, and the number of the last command. A group is offered to it, and then stored by one
+/// device call after another. All memory that it will ever need is allocated when it is made.
 ///
-/// Contracts see a committer as its disk, what is committed, what is under way, and the stages of
-/// it that are left.
+/// Contracts describe a committer by its disk, what is committed, what is under way, and the stages
+/// of it that are left.
 #[derive(Drop)]
 pub struct Committer<D: Disk> {
     disk: D,
-    journal: Journal,
+    journal: JournalEnd,
     /// The rows that are committed, each class with its record.
-    rows: Book<Arc<Record, Global>>,
-    /// The same rows, with nothing kept; while a group is under way, those after it.
-    next: Book<()>,
-    /// How many whole roots the file had when the last group was done; while it is trimmed, how
-    /// many are left of them.
+    rows: LiveRows<Arc<Record, Global>>,
+    /// The same rows without their records; while a group is under way, the rows after it.
+    next: LiveRows<()>,
+    /// How many whole roots the file had when the last group was done; while the file is trimmed,
+    /// how many of them are left.
     roots: u32,
     /// The group that is under way.
     group: Option<Group>,
     step: PlanStep,
     is_broken: bool,
-    /// Room for the bytes of one write: no more than a root has, or a half of the journal.
+    /// Room for the bytes of one write, which never exceeds a root or a half of the journal.
     buffer: Vec<u8>,
 }
 
@@ -88,38 +87,38 @@ impl<D: Disk> Model for Committer<D> {
         c.rows.sizes c.next c.roots (vec_capacity c.buffer) };
 }
 
-/// A committer that wasn't made, since an allocation failed; its disk.
+/// No committer was made, because an allocation failed. It hands back the disk.
 #[derive(Debug, Drop, Error)]
 #[error("out of memory")]
 #[error_bound(D: Debug + Drop)]
 pub struct NotMade<D> {
-    /// As it was.
+    /// The disk, as it was.
     pub disk: D,
 }
 
-/// The rows again with nothing kept, and room for the bytes of one write.
+/// Allocates a copy of the rows without their records, and room for the bytes of one write.
 fn take_memory(
     alloc: Global,
     geometry: Geometry,
-    rows: &Book<Arc<Record, Global>>,
-) -> Result<(Book<()>, Vec<u8>), AllocError>
+    rows: &LiveRows<Arc<Record, Global>>,
+) -> Result<(LiveRows<()>, Vec<u8>), AllocError>
     requires { rows.now.sizes ≡ geometry }
     ensures next { IfOk result (λ p. p.0 ≡ record { sizes = geometry; rows = bare rows.now.rows }) }
     ensures room { IfOk result (λ p. most_written geometry ≤ vec_capacity p.1) }
 {
-    let mut next = Book::new(alloc, geometry)?;
+    let mut next = LiveRows::new(alloc, geometry)?;
     next.copy_from(rows);
     let most = root_bytes(geometry).max(half_bytes(geometry));
     let buffer = Vec::with_capacity(alloc, most as usize)?;
     Ok((next, buffer))
 }
 
-/// Commits a group that went where the journal goes on so: its entries are applied to the rows, and
-/// the half ends behind it.
+/// Commits a group that was written at the end of the journal `target`: its entries are applied to
+/// the rows, and the half then ends after it.
 fn finish(
-    target: Journal,
-    journal: &mut Journal,
-    rows: &mut Book<Arc<Record, Global>>,
+    target: JournalEnd,
+    journal: &mut JournalEnd,
+    rows: &mut LiveRows<Arc<Record, Global>>,
     roots: &mut u32,
     group: Group,
 ) -> Receipt
@@ -151,14 +150,14 @@ fn finish(
 }
 
 impl<D: Disk> Committer<D> {
-    /// The committer of a disk that holds the cache of these rows, whose journal goes on as given
-    /// in a half of the version that is written now, and that has so many whole roots. An `Err`
-    /// hands the disk back as it was.
+    /// Makes the committer of a disk that holds the cache of these rows. `journal` says where the
+    /// journal continues, in a half of the version that is written now, and `roots` how many whole
+    /// roots the file has. An `Err` hands back the disk as it was.
     pub fn new(
         alloc: Global,
         disk: D,
-        journal: Journal,
-        rows: Book<Arc<Record, Global>>,
+        journal: JournalEnd,
+        rows: LiveRows<Arc<Record, Global>>,
         roots: u32,
     ) -> Result<Committer<D>, NotMade<D>>
         requires sizes { rows.sizes ≡ journal.geometry }
@@ -202,18 +201,18 @@ impl<D: Disk> Committer<D> {
         self.group.is_some() || is_trim(self.step)
     }
 
-    /// Takes a group, which is stored from then on by [`Committer::advance`]. No device call is
-    /// made, and no memory is taken.
+    /// TakesGroup a group, which [`Committer::advance`] stores from then on. This makes no device
+    /// call and allocates nothing.
     ///
-    /// The group is handed back, and nothing is changed, exactly where the committer is broken or
-    /// busy, where the group doesn't begin one past the committer's number, and where an entry may
-    /// not join: it breaks a rule, writes into a chunk that committed rows use (but behind the
-    /// records on its loader's last one), makes a class that its loader has by then, or carries
-    /// other records than it needs: a class's own, and those on the old chunk for a move. Where the
-    /// half of the journal that counts has no room for it, a checkpoint comes first, which takes
-    /// six device calls.
+    /// The group is handed back, and nothing is changed, exactly if the committer is broken or
+    /// busy, the group doesn't begin one past the committer's number, or an entry may not join: it
+    /// breaks a rule, writes into a chunk that committed rows use (other than after the records on
+    /// its loader's last one), makes a class that its loader has by then, or carries other records
+    /// than it needs. It needs a class's own record, and for a move the records on the old chunk.
+    /// If the half of the journal that counts has no room for the group, a checkpoint comes first,
+    /// which takes six device calls.
     pub fn offer(&mut self, group: Group) -> Result<(), Mismatch>
-        ensures takes { IsOk result ↔ Takes self.old group }
+        ensures takes { IsOk result ↔ TakesGroup self.old group }
         ensures taken { OnOk result (self.new ≡ with_taken D.view self.old group) }
         ensures steps { OnOk result (calls_left self.new.left
             ≡ 4 + roots_to_add self.old.sizes (length (D.view.contents self.old.disk))
@@ -237,10 +236,10 @@ impl<D: Disk> Committer<D> {
         Ok(())
     }
 
-    /// Begins to cut the file behind the last root that committed rows use, where it holds whole
-    /// roots behind that, of those that it may have: two calls of [`Committer::advance`] are due
-    /// then. It is `false` where there is nothing to cut, and refused exactly where the committer
-    /// is broken or busy. No device call is made, and no memory is taken.
+    /// Begins to truncate the file after the last root that committed rows use, if it holds whole
+    /// roots after that one, of those that it may have: two calls of [`Committer::advance`] are due
+    /// then. The result is `false` if there is nothing to cut; the call is refused exactly if the
+    /// committer is broken or busy. This makes no device call and allocates nothing.
     pub fn trim(&mut self) -> Result<bool, NotIdle>
         ensures { BeginsTrim D.view self.old result self.new }
     {
@@ -263,19 +262,20 @@ impl<D: Disk> Committer<D> {
         used_roots(&self.rows)
     }
 
-    /// Makes the next device call of the group that is under way, exactly one where any is left:
-    /// those of a checkpoint where the half that counts has no room for the group; a write of a
-    /// root of zeros for each root by which the file has to grow, a write of each record in the
-    /// order of the entries, a write of the slots behind the gate's byte, a sync, the write of the
+    /// Makes the next device call of the group that is under way, exactly one if any is left: those
+    /// of a checkpoint if the half that counts has no room for the group; a write of a root of
+    /// zeros for each root by which the file has to grow, a write of each record in the order of
+    /// the entries, a write of the slots from the byte after the gate, a sync, the write of the
     /// gate's byte, a sync. The last of them commits the group and returns its receipt. After
     /// `Device` the committer is broken, and makes no more calls.
     ///
     /// A checkpoint writes the other half of the journal anew, with the live rows: a write of 0 to
-    /// its gate, where that is open, or else a sync; a sync; the write of the half behind its gate;
-    /// a sync; the write of its gate's byte; a sync. It leaves what is committed as it is.
+    /// its gate if that is open, or else a sync; a sync; the write of the half from the byte after
+    /// its gate; a sync; the write of its gate's byte; a sync. It leaves what is committed as it
+    /// is.
     ///
     /// A trim takes a cut of the file and a sync, and leaves what is committed as it is. The second
-    /// of them returns how many roots the file has then.
+    /// of these calls returns how many roots the file then has.
     pub fn advance(&mut self) -> Result<Progress, AdvanceFault>
         ensures moved { Advances self.old result self.new }
         ensures any_moment { LeavesOnly D.view self.old.disk self.new.disk
@@ -321,7 +321,7 @@ impl<D: Disk> Committer<D> {
         Ok(Progress::Done(receipt))
     }
 
-    /// Makes the next device call of a trim, where one is under way.
+    /// Makes the next device call of a trim, if one is under way.
     fn advance_trim(&mut self) -> Result<Progress, AdvanceFault>
         requires sound { self.old.broken ≡ false }
         requires ungrouped { NoGroup self.old.underway }
@@ -350,13 +350,13 @@ impl<D: Disk> Committer<D> {
         Ok(Progress::Trimmed(self.roots))
     }
 
-    /// Does nothing: its clause says what a crash leaves now. That is the cache that is committed,
-    /// or, once the gate's byte may be written, that or the one with the group that is under way.
+    /// Does nothing: its clause says what a crash leaves now. That is the committed cache or, once
+    /// the gate's byte may be written, either that or the cache with the group that is under way.
     pub fn images(&self)
         ensures { EachImage (D.view.contents self.now.disk) (D.view.unsynced self.now.disk)
             (MayLeave self.now) }
     {
-        let _read = self.is_broken; // the read of a field brings the invariant
+        let _read = self.is_broken; // reading a field brings the invariant
     }
 
     /// Does nothing: its clause says that whatever a crash leaves now, the half that counts in it
@@ -365,7 +365,7 @@ impl<D: Disk> Committer<D> {
         ensures { EachImage (D.view.contents self.now.disk) (D.view.unsynced self.now.disk)
             IsNewest }
     {
-        let _read = self.is_broken; // the read of a field brings the invariant
+        let _read = self.is_broken; // reading a field brings the invariant
     }
 
     /// How many device calls are left.
@@ -415,7 +415,7 @@ impl<D: Disk> Committer<D> {
 }
 
 impl Committer<SimDisk> {
-    /// Lets the disk's next call fail; a write stores its first bytes, so many of them.
+    /// Makes the disk's next call fail; if that is a write, it stores its first `stores` bytes.
     pub fn arm(&mut self, stores: usize)
         ensures { self.new ≡ record self.old
             { disk = record self.old.disk { armed = Some stores } } }
@@ -423,7 +423,7 @@ impl Committer<SimDisk> {
         self.disk.arm(stores);
     }
 
-    /// Lets the disk's next call pass.
+    /// Lets the disk's next call succeed.
     pub fn disarm(&mut self)
         ensures { self.new ≡ record self.old { disk = record self.old.disk { armed = None } } }
     {

@@ -3,7 +3,7 @@
 ghost use Rattle.std.specs.Prelude.{◌≡◌, ◌<◌, ◌≤◌, ◌+◌, ◌^◌, Some, None, MatchOption};
 ghost use Rattle.std.specs.Prelude.{length, ℕ};
 ghost use Rattle.std.specs.List.{slice_get};
-ghost use Rattle.cm_commit.specs.declared.journal.Journal.{Journal};
+ghost use Rattle.cm_commit.specs.declared.journal_end.JournalEnd.{JournalEnd};
 ghost use Rattle.cm_guards.specs.Stages.{calls_left};
 ghost use Rattle.cm_commit.specs.GroupPlans.{writes_of, all_writes};
 ghost use Rattle.cm_commit.specs.GroupPlans.{roots_of_entry, roots_of_entries};
@@ -79,7 +79,7 @@ fn writes_in(carried: &CarriedEntry) -> usize
 }
 
 /// The record of this number among those that entries write, with its place. A group has few
-/// entries, and none of them is gone through.
+/// entries, and none of them is searched.
 pub(crate) fn nth_write(entries: &[CarriedEntry], number: usize) -> Option<(Place, &Record)>
     requires { HaveOffsets (all_writes entries.now) }
     ensures found { MatchOption result (slice_get (all_writes entries.now) number ≡ None)
@@ -107,12 +107,12 @@ fn all_writes(entries: &[CarriedEntry]) -> usize
     count
 }
 
-/// How many device calls of a group with these entries are left at a step, those of a checkpoint
-/// left out.
+/// How many device calls of a group with these entries are left at a step, not counting those of a
+/// checkpoint.
 pub(crate) fn group_calls(now: CommitStep, entries: &[CarriedEntry]) -> u64
     requires roots { roots_of_entries (entries_in entries.now) < 2 ^ 32 }
     requires few { length (all_writes entries.now) < 2 ^ 32 }
-    ensures calls { (j : Journal) (first learnt : ℕ) → result ≡ calls_left (stages_at j
+    ensures calls { (j : JournalEnd) (first learnt : ℕ) → result ≡ calls_left (stages_at j
         (record { first = first; learnt = learnt; entries = entries.now }) now) }
     ensures few { result ≤ 2 ^ 33 + 4 }
 {

@@ -13,30 +13,31 @@ ghost use Rattle.cm_state.specs.State.{words_show, class_among};
 ghost use Rattle.cm_state.specs.Entries.{AreCacheRows};
 ghost use Rattle.cm_group.specs.Groups.{IsGroup, entries_in, slots_taken};
 ghost use Rattle.cm_commit.specs.Offers.{carries_own, writes_apart, MayCome};
-ghost use Rattle.cm_commit.specs.Joining.{makes_class, is_new, are_new, is_inside, are_inside};
-ghost use Rattle.cm_commit.specs.Joining.{are_apart, may_join};
+ghost use Rattle.cm_commit.specs.Joining.{makes_class, is_new, are_new, entry_is_inside};
+ghost use Rattle.cm_commit.specs.Joining.{are_inside};
+ghost use Rattle.cm_commit.specs.Joining.{entries_are_apart, may_join};
 ghost use Rattle.cm_commit.specs.Laws.{AreTold, TellsWords};
 
 use crate::applying::apply_all;
-use crate::journal::Journal;
-use crate::moving::all_move_them;
+use crate::journal_end::JournalEnd;
+use crate::move_records::all_move_them;
 use cm_group::{CarriedEntry, Group};
 use cm_layout::{ClassRow, Entry, Row};
 use cm_record::{Record, words_tell_name};
-use cm_rows::Book;
+use cm_rows::LiveRows;
 use std::alloc::Global;
 use std::sync::Arc;
 
-/// Whether a record has so many words.
+/// Whether a record has `words` words.
 fn has_words(class: &Record, words: u32) -> bool
     ensures own { result ≡ (length class.now == words) }
     ensures told { AreTold class.now }
 {
-    class.bytes_tell_words(); // the proof has use for it
+    class.bytes_tell_words(); // the proof uses this
     class.words() == words
 }
 
-/// Does nothing when it runs: the bytes of each record's words tell these again.
+/// Does nothing at run time: each record's words can be recovered from their bytes.
 fn tell_words(records: &[Arc<Record, Global>])
     ensures { AllByRecursion AreTold (map arc_value records.now) }
 {
@@ -45,8 +46,8 @@ fn tell_words(records: &[Arc<Record, Global>])
     }
 }
 
-/// Whether an entry carries the records that it needs: a class's own, which has as many words as
-/// its row says, and beside a move any, which [`moves_them`] looks at.
+/// Whether an entry carries the records that it needs: for a class its own record, which has as
+/// many words as its row says; for a move any records, which [`moves_them`] checks.
 fn carries_own(carried: &CarriedEntry) -> bool
     ensures own { result ≡ carries_own carried.now }
     ensures told { IsTrue result → TellsWords carried.now }
@@ -80,8 +81,8 @@ fn all_carry_own(entries: &[CarriedEntry]) -> bool
     true
 }
 
-/// Whether a class's record lies behind all others on the last chunk of its loader.
-fn is_behind_last(rows: &Book<Arc<Record, Global>>, row: &ClassRow) -> bool
+/// Whether a class's record lies after all others on the last chunk of its loader.
+fn is_behind_last(rows: &LiveRows<Arc<Record, Global>>, row: &ClassRow) -> bool
     ensures { result ≡ (is_last_chunk row.now.loader row.now.place.chunk rows.now.rows
         && nat_le (used_words row.now.place.chunk rows.now.rows) row.now.place.offset) }
 {
@@ -91,10 +92,10 @@ fn is_behind_last(rows: &Book<Arc<Record, Global>>, row: &ClassRow) -> bool
     }
 }
 
-/// Whether an entry writes into no chunk that committed rows use, but behind the records on its
-/// loader's last one.
-fn writes_apart(rows: &mut Book<Arc<Record, Global>>, entry: &Entry<()>) -> bool
-    requires inside { is_inside rows.old.sizes entry.now ≡ true }
+/// Whether an entry writes into no chunk that committed rows use, other than after the records on
+/// its loader's last one.
+fn writes_apart(rows: &mut LiveRows<Arc<Record, Global>>, entry: &Entry<()>) -> bool
+    requires inside { entry_is_inside rows.old.sizes entry.now ≡ true }
     ensures apart { result ≡ writes_apart rows.old.rows entry.now }
     ensures same { rows.new ≡ rows.old }
 {
@@ -107,10 +108,10 @@ fn writes_apart(rows: &mut Book<Arc<Record, Global>>, entry: &Entry<()>) -> bool
     }
 }
 
-/// Whether each entry writes where [`writes_apart`] lets it.
-fn all_write_apart(rows: &mut Book<Arc<Record, Global>>, entries: &[CarriedEntry]) -> bool
+/// Whether each entry writes where [`writes_apart`] allows it.
+fn all_write_apart(rows: &mut LiveRows<Arc<Record, Global>>, entries: &[CarriedEntry]) -> bool
     requires inside { are_inside rows.old.sizes entries.now ≡ true }
-    ensures apart { result ≡ are_apart rows.old.rows entries.now }
+    ensures apart { result ≡ entries_are_apart rows.old.rows entries.now }
     ensures same { rows.new ≡ rows.old }
 {
     for carried in entries {
@@ -154,7 +155,7 @@ fn is_made(loader: u64, class: &Record, entries: &[CarriedEntry]) -> bool
 }
 
 /// Whether no committed class of this loader has the name of this one.
-fn is_absent(rows: &Book<Arc<Record, Global>>, loader: u64, class: &Arc<Record, Global>) -> bool
+fn is_absent(rows: &LiveRows<Arc<Record, Global>>, loader: u64, class: &Arc<Record, Global>) -> bool
     ensures { result ≡ is_none (class_among words_show loader (class_name_in (arc_value class.now))
         (rows_with arc_value rows.now.rows)) }
 {
@@ -163,7 +164,11 @@ fn is_absent(rows: &Book<Arc<Record, Global>>, loader: u64, class: &Arc<Record, 
 
 /// Whether the class that an entry makes, if it makes one, is new in its loader, by what is
 /// committed and by the entries before it.
-fn is_new(rows: &Book<Arc<Record, Global>>, before: &[CarriedEntry], carried: &CarriedEntry) -> bool
+fn is_new(
+    rows: &LiveRows<Arc<Record, Global>>,
+    before: &[CarriedEntry],
+    carried: &CarriedEntry,
+) -> bool
     ensures { result
         ≡ is_new (rows_with arc_value rows.now.rows) before.now carried.now.entry }
 {
@@ -176,8 +181,8 @@ fn is_new(rows: &Book<Arc<Record, Global>>, before: &[CarriedEntry], carried: &C
 }
 
 /// Whether each class that entries make is new in its loader. A group has few entries, so each is
-/// held against those before it.
-fn are_new(rows: &Book<Arc<Record, Global>>, entries: &[CarriedEntry]) -> bool
+/// compared with those before it.
+fn are_new(rows: &LiveRows<Arc<Record, Global>>, entries: &[CarriedEntry]) -> bool
     ensures { result ≡ are_new (rows_with arc_value rows.now.rows) [] entries.now }
 {
     for (at, carried) in entries.iter().enumerate() {
@@ -188,11 +193,11 @@ fn are_new(rows: &Book<Arc<Record, Global>>, entries: &[CarriedEntry]) -> bool
     true
 }
 
-/// Whether entries may join, the first with the number behind this one. Then they are applied to
-/// the next rows; else some of them may be.
+/// Whether entries may join, where the first has the number after `number`. If so, they are applied
+/// to the next rows; otherwise some of them may be.
 fn may_join(
-    rows: &mut Book<Arc<Record, Global>>,
-    next: &mut Book<()>,
+    rows: &mut LiveRows<Arc<Record, Global>>,
+    next: &mut LiveRows<()>,
     number: u64,
     entries: &[CarriedEntry],
 ) -> bool
@@ -217,7 +222,7 @@ fn may_join(
     all_write_apart(rows, entries) && are_new(rows, entries)
 }
 
-/// Whether a group begins where the commands end that are committed.
+/// Whether a group begins one past the last committed command.
 fn goes_on(number: u64, group: &Group) -> bool
     requires { number ≤ 2 ^ 63 }
     ensures on { result ≡ (group.now.first == number + 1) }
@@ -226,11 +231,12 @@ fn goes_on(number: u64, group: &Group) -> bool
     group.first() == number + 1
 }
 
-/// Whether a group may come next. Then the next rows are those after it; else nothing is changed.
+/// Whether a group may come next. If so, the next rows become those after it; otherwise nothing is
+/// changed.
 pub(crate) fn take_group(
-    journal: &Journal,
-    rows: &mut Book<Arc<Record, Global>>,
-    next: &mut Book<()>,
+    journal: &JournalEnd,
+    rows: &mut LiveRows<Arc<Record, Global>>,
+    next: &mut LiveRows<()>,
     group: &Group,
 ) -> bool
     requires lawful { IsGeometry journal.now.geometry }

@@ -1,4 +1,4 @@
-//! How a region file goes on by one group, call by call, and what a crash leaves of it.
+//! Appends groups to a region file, one device call at a time, and shows what a crash leaves of it.
 #![tactic(auto)]
 
 mod applying;
@@ -8,10 +8,10 @@ mod checkpoint;
 mod committer;
 mod entries;
 mod joining;
-mod journal;
+mod journal_end;
 mod laws;
 mod mismatch;
-mod moving;
+mod move_records;
 mod plan;
 mod progress;
 mod renewal;
@@ -19,7 +19,7 @@ mod step;
 mod trim;
 
 pub use committer::{Committer, NotMade};
-pub use journal::Journal;
+pub use journal_end::JournalEnd;
 pub use laws::{
     checkpoints_renew, committed_is_guarded, groups_go_through, groups_turn, other_halves_shut,
     others_are_told, plans_have_steps, shut_halves_may_change, trims_stand, written_halves_open,

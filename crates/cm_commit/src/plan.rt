@@ -1,4 +1,4 @@
-//! The device calls that a group takes, those of a checkpoint before it among them.
+//! The device calls that a group takes, including those of a checkpoint before it.
 
 ghost use Rattle.std.specs.Prelude.{◌≡◌, ◌≤◌, ◌<◌, ◌^◌, ◌↔◌, IfOk, IsTrue, is_ok, length};
 ghost use Rattle.std.specs.Prelude.{vec_capacity, ℕ, List, false};
@@ -7,7 +7,7 @@ ghost use Rattle.cm_layout.specs.declared.row.Row.{Row};
 ghost use Rattle.cm_layout.specs.Rows.{bare, rows_with};
 ghost use Rattle.cm_guards.specs.Stages.{CallsOnce, TakesCall, after_call, calls_left};
 ghost use Rattle.cm_group.specs.Groups.{entries_in};
-ghost use Rattle.cm_commit.specs.declared.journal.Journal.{Journal};
+ghost use Rattle.cm_commit.specs.declared.journal_end.JournalEnd.{JournalEnd};
 ghost use Rattle.cm_commit.specs.declared.step.CommitStep.TheVariants as step;
 ghost use Rattle.cm_commit.specs.declared.step.PlanStep.TheVariants as plan;
 ghost use Rattle.cm_commit.specs.Checkpoints.{target_of as target};
@@ -18,17 +18,17 @@ ghost use Rattle.cm_commit.specs.Steps.{FitsHalf, FitsJournal, plan_left, is_tri
 use crate::calls::make_group_call;
 use crate::checkpoint::{checkpoint_calls, make_checkpoint_call};
 use crate::entries::group_calls;
-use crate::journal::{Journal, is_due, target_of};
+use crate::journal_end::{JournalEnd, is_due, target_of};
 use crate::step::{CheckpointStep, CommitStep, PlanStep};
 use cm_disk::{DeviceFault, Disk};
 use cm_group::{CarriedEntry, Group};
 use cm_record::Record;
-use cm_rows::Book;
+use cm_rows::LiveRows;
 use std::alloc::Global;
 use std::sync::Arc;
 
-/// What the first call of a group is, where the file has so many whole roots.
-pub(crate) fn first_step(journal: &Journal, roots: u32, group: &Group) -> PlanStep
+/// What the first call of a group is, if the file has `roots` whole roots.
+pub(crate) fn first_step(journal: &JournalEnd, roots: u32, group: &Group) -> PlanStep
     ensures { (rows : List (Row (Unit {0}))) → plan_left journal.now rows roots group.now result
         ≡ plan_of journal.now rows roots group.now.entries }
 {
@@ -39,7 +39,7 @@ pub(crate) fn first_step(journal: &Journal, roots: u32, group: &Group) -> PlanSt
     }
 }
 
-/// The step behind one of a checkpoint.
+/// The step that follows one of a checkpoint.
 fn behind_checkpoint(next: Option<CheckpointStep>, roots: u32) -> PlanStep
     ensures { result ≡ elim next
         [ Some at ↦ plan.Checkpoint at | None ↦ plan.Group (step.Write roots 0) ] }
@@ -50,13 +50,13 @@ fn behind_checkpoint(next: Option<CheckpointStep>, roots: u32) -> PlanStep
     }
 }
 
-/// Makes the next device call of a group, where the file had so many whole roots before it, and
-/// tells the step behind it.
+/// Makes the next device call of a group and returns the step that follows. The file had `roots`
+/// whole roots before the group.
 pub(crate) fn make_call<D: Disk>(
     disk: &mut D,
     buffer: &mut Vec<u8>,
-    journal: &Journal,
-    rows: &Book<Arc<Record, Global>>,
+    journal: &JournalEnd,
+    rows: &LiveRows<Arc<Record, Global>>,
     roots: u32,
     group: &Group,
     now: PlanStep,
@@ -102,12 +102,12 @@ pub(crate) fn is_done(now: PlanStep) -> bool
     }
 }
 
-/// How many device calls of a group with these entries are left at a step, where the file had so
-/// many whole roots before it.
+/// How many device calls of a group with these entries are left at a step, if the file had `roots`
+/// whole roots before it.
 pub(crate) fn calls_at(now: PlanStep, roots: u32, entries: &[CarriedEntry]) -> u64
     requires roots { roots_of_entries (entries_in entries.now) < 2 ^ 32 }
     requires few { length (all_writes entries.now) < 2 ^ 32 }
-    ensures { (j : Journal) (rows : List (Row (Unit {0}))) (first learnt : ℕ)
+    ensures { (j : JournalEnd) (rows : List (Row (Unit {0}))) (first learnt : ℕ)
         → result ≡ calls_left (plan_left j rows roots
         (record { first = first; learnt = learnt; entries = entries.now }) now) }
 {

@@ -1,4 +1,4 @@
-//! Writing the journal anew where nothing is under way yet.
+//! Writes the journal anew when nothing is under way yet.
 
 ghost use Rattle.std.specs.Prelude.{◌≡◌, ◌≤◌, Err, OnOk, IfOk, vec_capacity, length};
 ghost use Rattle.std.specs.Arc.{arc_value};
@@ -15,21 +15,20 @@ ghost use Rattle.cm_commit.specs.Renewals.{MayRenew, RenewCause};
 ghost use Rattle.cm_commit.specs.declared.renewal.RenewFault.TheVariants as fault;
 
 use crate::checkpoint::make_checkpoint_call;
-use crate::journal::{Journal, renewed};
+use crate::journal_end::{JournalEnd, renewed};
 use crate::step::CheckpointStep;
 use cm_disk::{DeviceFault, Disk};
 use cm_layout::half_bytes;
 use cm_record::Record;
-use cm_rows::Book;
+use cm_rows::LiveRows;
 use std::alloc::{AllocError, Global};
 use std::sync::Arc;
 use thiserror::Error;
 
-/// Why a journal isn't written anew.
+/// Why a journal wasn't written anew.
 #[derive(Clone, Copy, Debug, PartialEq, Eq, Error)]
 pub enum RenewFault {
-    /// The device failed. What stood in the file stands there still, in the old half or in the new
-    /// one.
+    /// The device failed. What the file held it still holds, in the old half or in the new one.
     #[error("the device failed")]
     Device,
     /// An allocation failed. The disk is as it was.
@@ -57,8 +56,8 @@ impl From<AllocError> for RenewFault {
 fn make_calls<D: Disk>(
     disk: &mut D,
     buffer: &mut Vec<u8>,
-    journal: &Journal,
-    rows: &Book<Arc<Record, Global>>,
+    journal: &JournalEnd,
+    rows: &LiveRows<Arc<Record, Global>>,
 ) -> Result<(), DeviceFault>
     requires room { half_size journal.now.geometry ≤ vec_capacity buffer.old }
     requires held { MayRenew (D.view.contents disk.old) (D.view.unsynced disk.old) journal.now
@@ -80,16 +79,16 @@ fn make_calls<D: Disk>(
 
 /// Writes the half of the journal that doesn't count anew, with the live rows and in the version
 /// that is written now, and makes it the one that counts: the six device calls of a checkpoint, one
-/// after another. It returns where the journal goes on then. So a file of an older version is moved
-/// over.
+/// after another. It returns where the journal continues then. This is how a file of version 1 is
+/// upgraded.
 ///
 /// At each moment a crash leaves these rows and this number, in the old half or in the new one.
 pub fn renew<D: Disk>(
     alloc: Global,
     disk: &mut D,
-    journal: &Journal,
-    rows: &Book<Arc<Record, Global>>,
-) -> Result<Journal, RenewFault>
+    journal: &JournalEnd,
+    rows: &LiveRows<Arc<Record, Global>>,
+) -> Result<JournalEnd, RenewFault>
     requires held { MayRenew (D.view.contents disk.old) (D.view.unsynced disk.old) journal.now
         (rows_with arc_value rows.now.rows) }
     ensures renewed { IfOk result

@@ -1,4 +1,4 @@
-//! How far a checkpoint is written, a group stored, and a file trimmed.
+//! How far a checkpoint, the storing of a group, or a trim has come.
 
 /// What the next device call of a group is.
 #[derive(Clone, Copy, Debug, PartialEq, Eq)]
@@ -10,7 +10,7 @@ pub(crate) enum CommitStep {
     Sync,
     /// The write of the gate's byte.
     Gate,
-    /// The sync behind it.
+    /// The sync after it.
     LastSync,
     /// None: all calls are made.
     Done,
@@ -19,26 +19,26 @@ pub(crate) enum CommitStep {
 /// What the next device call of a checkpoint is.
 #[derive(Clone, Copy, Debug, PartialEq, Eq)]
 pub(crate) enum CheckpointStep {
-    /// The write of the other half's gate, where that is open; else a sync in place of it.
+    /// The write of the other half's gate if that is open, otherwise a sync in its place.
     Shut,
-    /// The sync behind it.
+    /// The sync after it.
     SyncShut,
-    /// The write of the other half behind its gate.
+    /// The write of the other half, from the byte after its gate.
     Write,
     /// The sync before its gate.
     SyncWritten,
     /// The write of its gate's byte.
     Open,
-    /// The sync behind it.
+    /// The sync after it.
     SyncOpened,
 }
 
 /// What the next device call of a trim is.
 #[derive(Clone, Copy, Debug, PartialEq, Eq)]
 pub(crate) enum TrimStep {
-    /// The cut of the file behind the roots that rows use.
+    /// The cut of the file after the roots that rows use.
     Cut,
-    /// The sync behind it.
+    /// The sync after it.
     Sync,
 }
 
@@ -49,6 +49,6 @@ pub(crate) enum PlanStep {
     Checkpoint(CheckpointStep),
     /// One of the group.
     Group(CommitStep),
-    /// One of a trim; then no group is under way.
+    /// One of a trim; no group is under way then.
     Trim(TrimStep),
 }

@@ -1,9 +1,9 @@
-//! The device calls that cut a file behind the roots that rows use.
+//! The device calls that truncate a file after the roots that rows use.
 
 ghost use Rattle.std.specs.Prelude.{◌≡◌, ◌<◌, ◌^◌, IfOk, is_ok, length, List, None, ℕ};
 ghost use Rattle.cm_layout.specs.declared.row.Row.{Row as AnyRow};
 ghost use Rattle.cm_guards.specs.Stages.{CallsOnce, TakesCall, after_call, calls_left};
-ghost use Rattle.cm_commit.specs.declared.journal.Journal.{Journal};
+ghost use Rattle.cm_commit.specs.declared.journal_end.JournalEnd.{JournalEnd};
 ghost use Rattle.cm_commit.specs.Steps.{trim_left, trim_rest, stages_left, is_trim as is_trim_step};
 ghost use Rattle.cm_commit.specs.Trims.{roots_of_row, roots_of_rows};
 
@@ -12,7 +12,7 @@ use cm_disk::{DeviceFault, Disk};
 use cm_layout::{Row, root_at};
 use cm_pool::Geometry;
 use cm_record::Record;
-use cm_rows::Book;
+use cm_rows::LiveRows;
 use std::alloc::Global;
 use std::sync::Arc;
 
@@ -28,7 +28,7 @@ fn roots_of(row: &Row<Arc<Record, Global>>) -> u32
 }
 
 /// How many roots rows use: one more than the greatest.
-pub(crate) fn used_roots(rows: &Book<Arc<Record, Global>>) -> u32
+pub(crate) fn used_roots(rows: &LiveRows<Arc<Record, Global>>) -> u32
     requires { roots_of_rows rows.now.rows < 2 ^ 32 }
     ensures { result ≡ roots_of_rows rows.now.rows }
 {
@@ -40,8 +40,8 @@ pub(crate) fn used_roots(rows: &Book<Arc<Record, Global>>) -> u32
     used
 }
 
-/// Makes the next device call of a trim that leaves so many roots, and tells the step behind it, or
-/// `None` behind the last.
+/// Makes the next device call of a trim that leaves `roots` roots, and returns the step that
+/// follows, or `None` after the last.
 pub(crate) fn make_trim_call<D: Disk>(
     disk: &mut D,
     geometry: Geometry,
@@ -77,9 +77,9 @@ pub(crate) fn is_trim(now: PlanStep) -> bool
     }
 }
 
-/// How many device calls are left where no group is under way.
+/// How many device calls are left when no group is under way.
 pub(crate) fn trim_calls(now: PlanStep) -> u64
-    ensures { (j : Journal) (rows : List (AnyRow (Unit {0}))) (roots : ℕ)
+    ensures { (j : JournalEnd) (rows : List (AnyRow (Unit {0}))) (roots : ℕ)
         → result ≡ calls_left (stages_left j rows roots None now) }
 {
     match now {

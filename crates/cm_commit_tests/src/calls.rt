@@ -1,14 +1,14 @@
-//! Calls of an accepted cache as values, so that a test is a table of calls and answers.
+//! Calls of an accepted cache as values, so that a test is a table of calls and results.
 
 use crate::fronts::{add_loader, define, tighten, unload, unload_all, words};
+use cm_commands::{Prepared, Refusal};
 use cm_front::Front;
 use cm_group::{Group, Receipt};
 use cm_layout::Entry;
 use cm_pool::Chunk;
-use cm_prepare::{Prepared, Refusal};
 
-/// A call. Loaders and classes have names of one letter; a class that is defined stands at a place
-/// of the test's list.
+/// A call. Loaders and classes have names of one letter; a class to define is given by its index in
+/// the test's list.
 #[derive(Clone, Copy)]
 pub enum Call {
     AddLoader(u8),
@@ -25,12 +25,12 @@ pub enum Call {
     Close,
 }
 
-/// What comes of it.
+/// The result of a call.
 #[derive(Clone, Copy, PartialEq, Eq)]
 pub enum Answer {
     Number(u64),
     Refused(Refusal),
-    /// How many words the record has that was found.
+    /// How many words the record found has.
     Words(u32),
     /// The number of the group's first entry, how many entries it has, and what is learnt.
     Group(u64, usize, u64),

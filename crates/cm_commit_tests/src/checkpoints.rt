@@ -7,15 +7,16 @@ use crate::fronts::{add_loader, unload};
 use crate::small_files::{HALF_1_AT, Head, bytes_of, disk_of, file_of_loaders, head_at, heads};
 use crate::stores::commit;
 use crate::turns::{Course, Run, START, Stop, name, push_opening, push_runs, push_stop};
+use cm_commands::Refusal;
 use cm_commit::Committer;
 use cm_disk::SimDisk;
 use cm_front::Front;
 use cm_maintenance::list_accepted;
-use cm_prepare::Refusal;
 use std::alloc::Global;
 use std::test::*;
 
-/// Adds the loader of a turn, and stores it: how many device calls that takes, and its number.
+/// Adds the loader of a turn, and stores it. Returns how many device calls that takes, and its
+/// number.
 fn store_loader(
     front: &mut Front,
     committer: &mut Committer<SimDisk>,
@@ -27,7 +28,8 @@ fn store_loader(
     commit(front, committer)
 }
 
-/// Adds loaders until one takes other than four device calls: how many are stored by then.
+/// Adds loaders until one takes a number of device calls other than four. Returns how many are
+/// stored by then.
 fn fill(front: &mut Front, committer: &mut Committer<SimDisk>) -> (usize, Option<(u64, u64)>) {
     for turn in 0..200 {
         let stored = store_loader(front, committer, turn);
@@ -39,7 +41,7 @@ fn fill(front: &mut Front, committer: &mut Committer<SimDisk>) -> (usize, Option
 }
 
 /// How many loaders are stored by four device calls each, what the next takes and its number, and
-/// what comes of one more.
+/// the result of one more.
 type Filled = ((usize, Option<(u64, u64)>), Result<u64, Refusal>);
 
 fn fill_and_close(front: &mut Front, committer: Committer<SimDisk>) -> (Filled, SimDisk) {
@@ -102,7 +104,7 @@ fn count_again(alloc: Global, disk: SimDisk) -> Result<(usize, u64), Fail> {
     }
 }
 
-/// What comes of a loader after this many that stand in a file's half 0, and of one more.
+/// The result of a loader after this many that are in a file's half 0, and of one more.
 fn go_on_and_close(
     front: &mut Front,
     committer: Committer<SimDisk>,
@@ -125,8 +127,8 @@ fn go_on(
     }
 }
 
-/// How many loaders stand in half 0, each in a group of its own; how many device calls the next
-/// takes; and what comes of one more.
+/// How many loaders are in half 0, each in a group of its own; how many device calls the next
+/// takes; and the result of one more.
 const STANDING: [(usize, u64, Result<u64, Refusal>); 3] = [
     (125, 4, Ok(127)),
     (126, 4, Ok(128)),
@@ -151,7 +153,7 @@ fn remove_first(front: &mut Front, committer: &mut Committer<SimDisk>) -> Option
     commit(front, committer)
 }
 
-/// The first loader goes and comes, this many times: how many device calls that takes.
+/// Unloads and adds the first loader, this many times. Returns how many device calls that takes.
 fn make_again(front: &mut Front, committer: &mut Committer<SimDisk>, times: usize) -> Option<u64> {
     let mut calls: u64 = 0;
     for _time in 0..times {
@@ -171,7 +173,8 @@ fn add_loaders(front: &mut Front, committer: &mut Committer<SimDisk>, count: usi
     Some(calls)
 }
 
-/// How many device calls 100 loaders take, and how many it takes to make the first again 30 times.
+/// How many device calls 100 loaders take, and how many it takes to make the first one again 30
+/// times.
 type Calls = [Option<u64>; 2];
 
 fn use_and_close(front: &mut Front, committer: Committer<SimDisk>) -> (Calls, SimDisk) {
@@ -245,7 +248,7 @@ const BORDERS: [(&[Run], [Head; 2]); 4] = [
         ],
         [[OPEN, 128, 7, 596], [OPEN, 125, 6, 509]],
     ),
-    // loaders that come and go one by one
+    // loaders that are added and unloaded one by one
     (
         &[
             (127, (0, 1, 4)),
@@ -270,7 +273,7 @@ fn opened_runs(alloc: Global, runs: &[Run]) -> Result<Vec<Exchange>, Fail> {
     Ok(list)
 }
 
-/// Which event is the first that gets another reply, and the heads in the end.
+/// Which event is the first with a wrong reply, and the heads at the end.
 fn first_other_of_runs(
     alloc: Global,
     runs: &[Run],
@@ -341,7 +344,8 @@ const UP_TO_BORDER: [Run; 2] = [(1, (32, 32, 4)), (1, (29, 29, 4))];
 
 const UP_TO_FIRST_BORDER: [Run; 2] = [(1, (32, 32, 4)), (1, (30, 30, 4))];
 
-// A checkpoint before a group of loaders that go and come is stopped early, again and again.
+// A checkpoint before a group of loaders that are unloaded and added is stopped early, again and
+// again.
 fn push_early(list: &mut Vec<Exchange>, course: &Course, group: (usize, usize)) -> Option<()> {
     for stop in &EARLY {
         push_stop(list, course, group, stop)?;
@@ -349,7 +353,7 @@ fn push_early(list: &mut Vec<Exchange>, course: &Course, group: (usize, usize)) 
     Some(())
 }
 
-// One is stopped late: then its group has room.
+// A checkpoint is stopped late: then its group has room.
 fn push_late(
     list: &mut Vec<Exchange>,
     course: &mut Course,

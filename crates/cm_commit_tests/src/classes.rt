@@ -1,6 +1,6 @@
 //! Classes to store.
 
-use cm_prepare::{Prepared, Refusal, prepare};
+use cm_commands::{Prepared, Refusal, prepare};
 use std::alloc::Global;
 use std::test::Fail;
 
@@ -8,7 +8,7 @@ use std::test::Fail;
 pub const CLASS_A: &[u8] = b"cafebabe000000340005070002010001410700040100106a6176612f6c616e672f4f\
     626a6563740021000100030000000000000000";
 
-/// The class of these bytes. It is asked for once more if an allocation failed.
+/// The class of these bytes. It is prepared once more if an allocation failed.
 pub fn class_of(alloc: Global, bytes: &[u8]) -> Result<Prepared, Fail> {
     let class = match prepare(alloc, bytes) {
         Err(Refusal::NoMemory) => prepare(alloc, bytes),
@@ -49,8 +49,8 @@ fn join(alloc: Global, parts: &[&[u8]], zeros: usize) -> Option<Vec<u8>> {
     Some(bytes)
 }
 
-/// The class that has these parts and this many bytes of 0 after them. It is asked for once more
-/// if an allocation failed.
+/// The class that has these parts and this many bytes of 0 after them. It is prepared once more if
+/// an allocation failed.
 pub fn class_of_parts(alloc: Global, parts: &[&[u8]], zeros: usize) -> Result<Prepared, Fail> {
     let bytes = match join(alloc, parts, zeros) {
         Some(bytes) => bytes,

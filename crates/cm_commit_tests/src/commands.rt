@@ -1,10 +1,10 @@
-//! Calls one after another, with what comes of each.
+//! Calls one after another, with the result of each.
 
 use crate::calls::{Answer, Call, make};
 use crate::fronts::{add_loader, class, empty};
+use cm_commands::{Prepared, Refusal};
 use cm_front::Front;
 use cm_pool::Chunk;
-use cm_prepare::{Prepared, Refusal};
 use std::alloc::Global;
 use std::test::Fail;
 
@@ -36,7 +36,7 @@ pub fn classes(alloc: Global, samples: &[Sample]) -> Result<Vec<Prepared>, Fail>
     Ok(classes)
 }
 
-// Which of these calls, made one after another, is the first that gives another answer.
+// Which of these calls, made one after another, is the first with a wrong result.
 fn first_wrong(front: &mut Front, classes: &[Prepared], cases: &[(Call, Answer)]) -> Option<usize> {
     for (at, (call, expected)) in cases.iter().enumerate() {
         if make(front, classes, *call) != *expected {
@@ -57,7 +57,7 @@ fn first_wrong_of_empty(
     Ok(first_wrong(&mut front, classes, cases))
 }
 
-// And with classes of these samples.
+// The same with classes of these samples.
 fn first_other(
     alloc: Global,
     roots: u32,
@@ -104,7 +104,7 @@ const TIGHT: Chunk = Chunk {
     at: 128,
 };
 
-/// The second class fills one block of 128 words, of the two in its loader's second chunk. The one
+/// The second class fills one block of 128 words, of the two in its loader's second chunk. The only
 /// root has eight, of which `b` has the upper half.
 const MOVED: [(Call, Answer); 17] = [
     (Call::AddLoader(b'a'), Answer::Number(1)),
@@ -133,7 +133,8 @@ fn a_chunk_that_a_move_leaves_waits_for_its_receipt(rt: HostRuntime) -> Result<(
     Ok(())
 }
 
-/// The records of `a` and `b` fill the one root, until both loaders are gone and that is learnt.
+/// The records of `a` and `b` fill the only root, until both loaders are unloaded and that is
+/// learnt.
 const TOGETHER: [(Call, Answer); 16] = [
     (Call::AddLoader(b'a'), Answer::Number(1)),
     (Call::AddLoader(b'b'), Answer::Number(2)),

@@ -1,5 +1,5 @@
-//! Committers of new files in memory. What a test does with one stands in a function that borrows
-//! it, and after that the committer ends, which gives its disk back.
+//! Committers of new files in memory. What a test does with one is in a function that borrows it;
+//! after that the committer ends and hands back its disk.
 
 use crate::groups::{Sample, group_of};
 use cm_commit::{Committer, Progress};
@@ -46,7 +46,8 @@ fn is_whole(group: &Group, first: u64, count: usize) -> bool {
     group.first() == first && group.count() == count
 }
 
-/// Offers a group: how many device calls it takes, or, if it is refused, whether it came back.
+/// Offers a group. Returns how many device calls it takes or, if it is refused, whether it was
+/// handed back.
 pub fn offer(
     alloc: Global,
     committer: &mut Committer<SimDisk>,
@@ -60,7 +61,8 @@ pub fn offer(
     }
 }
 
-/// Makes all device calls of the group that is under way, and says the number that is stored then.
+/// Makes all device calls of the group that is under way, and returns the number that is then
+/// stored.
 pub fn store(committer: &mut Committer<SimDisk>) -> Option<u64> {
     for _call in 0..committer.steps_left() {
         match committer.advance() {

@@ -1,17 +1,17 @@
-//! Events one after another, with what is replied to each.
+//! Events one after another, with the reply to each.
 
 use crate::classes::{CLASS_A, class};
 use crate::fronts;
 use crate::small_files::bytes_of;
+use cm_commands::{Command, Prepared, Refusal};
 use cm_disk::{Choice, SimDisk};
 use cm_pool::Geometry;
-use cm_prepare::{Command, Prepared, Refusal};
 use cm_world::{Event, Reply, World};
 use std::alloc::Global;
 use std::test::*;
 
-/// An event: its loader is `a` if none is named, its class `A`, or `B` of 128 words; a crash
-/// leaves all bytes that were written.
+/// An event: its loader is `a` if none is named, its class `A`, or `B` of 128 words; a crash leaves
+/// all bytes that were written.
 #[derive(Clone, Copy)]
 pub enum Happens {
     Loader,
@@ -19,9 +19,9 @@ pub enum Happens {
     DefineB,
     Unload,
     Tighten,
-    /// A loader of this name comes.
+    /// A loader of this name is added.
     Comes(&'static [u8]),
-    /// It goes.
+    /// It is unloaded.
     Goes(&'static [u8]),
     Seal,
     Advance,
@@ -37,7 +37,7 @@ pub enum Happens {
     CrashTo(u8),
 }
 
-/// A reply, a class by the words of its record.
+/// A reply, where a class is given by the words of its record.
 #[derive(Clone, Copy, PartialEq, Eq)]
 pub enum Told {
     Number(u64),
@@ -60,7 +60,7 @@ pub enum Told {
     Opened(u64),
 }
 
-/// How many bytes a half of the journal has. No write that a crash may take back is longer.
+/// How many bytes a half of the journal has. No write that a crash may undo is longer.
 const HALF_BYTES: usize = 16_384;
 
 fn crash(fill: Vec<u8>) -> Event<'static> {
@@ -126,7 +126,7 @@ fn summary(reply: &Reply) -> Told {
     }
 }
 
-/// An event, and what is replied to it.
+/// An event, and the reply to it.
 pub type Exchange = (Happens, Told);
 
 fn push_events(
@@ -158,7 +158,7 @@ fn run(alloc: Global, events: Vec<Event<'static>>) -> Result<(Vec<Reply>, SimDis
     Ok((replies, world.into_disk()))
 }
 
-// Which reply is the first that is another, or missing.
+// Which reply is the first that is wrong or missing.
 fn first_wrong(replies: &[Reply], list: &[Exchange]) -> Option<usize> {
     for (at, (_, told)) in list.iter().enumerate() {
         match replies.get(at) {
@@ -173,7 +173,7 @@ fn first_wrong(replies: &[Reply], list: &[Exchange]) -> Option<usize> {
     }
 }
 
-/// Which event over a new file is the first that gets another reply.
+/// Which event over a new file is the first with a wrong reply.
 pub fn first_other(alloc: Global, list: &[Exchange]) -> Result<Option<usize>, Fail> {
     let events = events(alloc, list)?;
     let (replies, _disk) = run(alloc, events)?;
@@ -213,7 +213,8 @@ const CALLS: &[Exchange] = &[
     (Happens::Advance, Told::Done(2)),
 ];
 
-/// How many of them are made; and the number and the words that are found after a crash then.
+/// How many of them are made; and the number and the words that are found after a crash at that
+/// moment.
 const STOPPED: [(usize, u64, u32); 7] = [
     (0, 1, 0),
     (1, 1, 0),
@@ -232,8 +233,8 @@ pub fn push_parts(list: &mut Vec<Exchange>, parts: &[&[Exchange]]) -> Option<()>
     Some(())
 }
 
-// Which event is the first that gets another reply if a crash comes after these calls of the
-// class's group, and it is looked up then.
+// Which event is the first with a wrong reply if a crash comes after these calls of the class's
+// group, and the class is then looked up.
 fn first_other_of_crash(
     alloc: Global,
     calls: &[Exchange],
@@ -253,7 +254,7 @@ fn a_group_is_there_once_its_gate_is(rt: HostRuntime) -> Result<(), Fail> {
             (Happens::Look, Told::Words(*words)),
         ];
         let other = first_other_of_crash(rt.alloc(), made, &crash)?;
-        assert_eq!(rt; other, None, "behind {calls} calls");
+        assert_eq!(rt; other, None, "after {calls} calls");
     }
     Ok(())
 }

@@ -1,16 +1,16 @@
-//! Accepted caches to look at. What a test does with one stands in a function that borrows it.
-//! If an allocation failed a call is made once more: the cache is as it was, so the answer is
-//! the one that was due.
+//! Accepted caches for tests. What a test does with one is in a function that borrows it. If an
+//! allocation failed, a call is made once more: the cache is as it was, so the result is the one
+//! that was due.
 
 use crate::classes::class_of_parts;
+use cm_commands::{Command, Names, Prepared, Refusal};
 use cm_front::Front;
 use cm_pool::Geometry;
-use cm_prepare::{Command, Names, Prepared, Refusal};
 use std::alloc::{AllocError, Global};
 use std::test::Fail;
 
-/// A class with a name of one letter and one attribute named `X`: what stands before the letter,
-/// and between it and the attribute's length.
+/// A class with a name of one letter and one attribute named `X`: what precedes the letter, and
+/// what is between it and the attribute's length.
 const BEFORE_NAME: &[u8] = b"\xca\xfe\xba\xbe\0\0\0\x34\0\x06\x07\0\x02\x01\0\x01";
 
 const BEHIND_NAME: &[u8] = b"\x07\0\x04\x01\0\x10java/lang/Object\x01\0\x01X\
@@ -24,7 +24,7 @@ pub fn empty_of(alloc: Global, geometry: Geometry) -> Result<Front, Fail> {
     }
 }
 
-/// One with this many roots of this order.
+/// A cache with this many roots of this order.
 pub fn empty(alloc: Global, top: u32, roots: u32) -> Result<Front, Fail> {
     let geometry = Geometry::new(top, roots, 65_536).ok_or("sizes")?;
     empty_of(alloc, geometry)

@@ -12,12 +12,12 @@ use std::test::Fail;
 pub enum Sample {
     Loader(u64, u8),
     /// A class of a loader, by its name, with the first word of its chunk in the first root, its
-    /// offset and how many words its row names.
+    /// offset and how many words its row states.
     Class(u64, u8, u32, u32, u32),
     /// The same with its chunk at the front of the second root.
     Far(u64, u8),
     Unload(u64),
-    /// A loader's chunk, by its first word, moves after it.
+    /// A loader's chunk, by its first word, moves to the chunk after it.
     Move(u64, u32),
 }
 
@@ -45,7 +45,7 @@ fn move_entry(alloc: Global, loader: u64, at: u32) -> Result<CarriedEntry, Fail>
         from: chunk(0, at),
         to: chunk(0, at.saturating_add(128)),
     };
-    Ok(CarriedEntry::relocation(entry, MovedRecords::none(alloc)))
+    Ok(CarriedEntry::of_move(entry, MovedRecords::none(alloc)))
 }
 
 fn entry_of(alloc: Global, sample: Sample) -> Result<CarriedEntry, Fail> {

@@ -1,11 +1,11 @@
-//! Commands as values, so that a test is a table of commands and what is listed then, and accepted
+//! Commands as values, so that a test is a table of commands and what is then listed, and accepted
 //! caches after them.
 
 use crate::classes::class_of_parts;
 use crate::fronts::{add_loader, define, empty_of, tighten, unload};
+use cm_commands::Prepared;
 use cm_front::Front;
 use cm_pool::Geometry;
-use cm_prepare::Prepared;
 use std::alloc::Global;
 use std::test::Fail;
 
@@ -18,8 +18,8 @@ pub enum Call {
     Tighten(&'static [u8]),
 }
 
-/// A class whose record has 16 words where its name has up to eight bytes: what stands before the
-/// name's length, and after the name.
+/// A class whose record has 16 words if its name has up to eight bytes: what precedes the name's
+/// length, and what follows the name.
 const BEFORE_NAME: &[u8] = b"\xca\xfe\xba\xbe\0\0\0\x34\0\x05\x07\0\x02\x01";
 
 const BEHIND_NAME: &[u8] = b"\x07\0\x04\x01\0\x10java/lang/Object\

@@ -8,7 +8,7 @@ use cm_maintenance::{ListedClass, ListedLoader, list_accepted};
 use std::alloc::Global;
 use std::test::*;
 
-/// Commands, and what is listed then, as text: each loader's name in a line, and after it each
+/// Commands, and what is then listed, as text: each loader's name on a line, and after it each
 /// class with how many words its record has, its root, its chunk's first word there, and its
 /// offset.
 const CASES: [(&[Call], &[u8]); 9] = [
@@ -34,7 +34,7 @@ const CASES: [(&[Call], &[u8]); 9] = [
         ],
         b"a\n A 16 0 128 0\nb\n A 16 0 0 0\n",
     ),
-    // upper case stands before lower case, and a name before those that it begins
+    // upper case sorts before lower case, and a name before those that begin with it
     (
         &[
             Loader(b"ab"),
@@ -62,8 +62,8 @@ const CASES: [(&[Call], &[u8]); 9] = [
         b"a\n Z 16 0 0 32\n a 16 0 0 80\n b 16 0 0 16\n b$C 16 0 0 48\n b/C 16 0 0 0\n\
           \x20\xC3\xA9 16 0 0 64\n",
     ),
-    // a loader that is gone, and one that comes after it and has its name; what it left isn't free
-    // before its unloading is known to be stored
+    // a loader that is unloaded, and one that comes after it and has its name; what it left isn't
+    // free until its unloading is known to be durable
     (
         &[
             Loader(b"a"),
@@ -169,7 +169,7 @@ fn letter(at: usize) -> &'static [u8] {
 
 fn push_loaders(calls: &mut Vec<Call>) -> Result<(), Fail> {
     for at in 0..91 {
-        // each comes once, and neighbours come apart
+        // each is added once, and neighbours are added apart
         calls.push(Loader(letter(at * 37 % 91)))?;
     }
     Ok(())

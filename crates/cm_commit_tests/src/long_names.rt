@@ -4,7 +4,7 @@
 use crate::events::{Exchange, Happens, Told, first_other_and_bytes};
 use crate::small_files::{Head, heads};
 use crate::turns::long_name;
-use cm_prepare::Refusal;
+use cm_commands::Refusal;
 use std::alloc::Global;
 use std::test::*;
 
@@ -35,7 +35,7 @@ fn push_stored(
     list.push((Happens::Learn, Told::Learnt(number))).ok()
 }
 
-/// Which event is the first that gets another reply, and the heads in the end.
+/// Which event is the first with a wrong reply, and the heads at the end.
 fn first_other_and_heads(
     alloc: Global,
     list: &[Exchange],
@@ -44,7 +44,7 @@ fn first_other_and_heads(
     Ok((other, heads(&bytes)))
 }
 
-/// Whether these bytes stand in a slot of half 0.
+/// Whether a slot of half 0 begins with these bytes.
 fn stands_in(bytes: &[u8], slot: usize, expected: &[u8]) -> bool {
     match bytes.get(HALF_0.wrapping_add(slot.wrapping_mul(SLOT))..) {
         Some(rest) => rest.starts_with(expected),
@@ -75,7 +75,7 @@ const FIRST_NAME: [Exchange; 15] = [
 fn a_name_of_49_bytes_takes_two_slots(rt: HostRuntime) -> Result<(), Fail> {
     let (other, bytes) = first_other_and_bytes(rt.alloc(), &FIRST_NAME)?;
     assert_eq!(rt; other, None);
-    // a head, the loader and the rest of its name, and the next group
+    // a head, the loader and its continuation slot, and the next group
     assert!(rt; stands_in(&bytes, 1, &[0xA5, 2, 2, 0, 0, 0, 0, 0, 1, 0]));
     assert!(rt;
         stands_in(
@@ -97,7 +97,7 @@ fn a_name_of_49_bytes_takes_two_slots(rt: HostRuntime) -> Result<(), Fail> {
     Ok(())
 }
 
-/// Long names that come first, each in a group of its own.
+/// Long names that are added first, each in a group of its own.
 fn push_long_names(list: &mut Vec<Exchange>, count: usize) -> Option<()> {
     for turn in 0..count {
         let number = (turn as u64).wrapping_add(1);
@@ -106,7 +106,7 @@ fn push_long_names(list: &mut Vec<Exchange>, count: usize) -> Option<()> {
     Some(())
 }
 
-/// What comes of names after 64 long ones, which take all slots that may live.
+/// The results of names after 64 long ones, which take all slots that live rows may have.
 const BEHIND_64: [Exchange; 11] = [
     (Happens::Comes(b"a"), Told::Refused(Refusal::JournalFull)),
     (Happens::Comes(LONG), Told::Refused(Refusal::JournalFull)),
@@ -134,7 +134,7 @@ fn long_names_fill_a_journal_by_twos(rt: HostRuntime) -> Result<(), Fail> {
     Ok(())
 }
 
-/// What comes of 40 long names that are accepted before any is handed out.
+/// The results of 40 long names that are accepted before any is handed out.
 const HANDED_OUT: [Exchange; 15] = [
     (Happens::Seal, Told::Group(1, 32)),
     (Happens::Seal, Told::Group(33, 40)),
@@ -173,7 +173,7 @@ fn long_names_are_in_groups_of_32(rt: HostRuntime) -> Result<(), Fail> {
     Ok(())
 }
 
-/// The oldest names go and come again, each in a group of its own: two slots and three.
+/// The oldest names are unloaded and added again, each in a group of its own: two slots and three.
 fn push_made_again(list: &mut Vec<Exchange>, number: u64, times: usize) -> Option<u64> {
     let mut number = number;
     for turn in 0..times {
@@ -185,8 +185,8 @@ fn push_made_again(list: &mut Vec<Exchange>, number: u64, times: usize) -> Optio
     Some(number)
 }
 
-/// How many long names come, how many of them are made again, commands after that with how many
-/// device calls each takes, and the head of half 1 then.
+/// How many long names are added, how many of them are made again, commands after that with how
+/// many device calls each takes, and then the head of half 1.
 type Border = (usize, usize, &'static [(Happens, usize)], Head);
 
 const SHUT: Head = [0, 0, 0, 0];

@@ -9,8 +9,8 @@ use cm_recover::{FormatFault, NotOpened, OpenFault, format, open};
 use std::alloc::Global;
 use std::test::Fail;
 
-/// Whether this is why no file was made, if an allocation failed: that of the disk is a failure
-/// of the device, and any other leaves the disk empty.
+/// Whether this is why no file was made, if an allocation failed: an allocation of the disk is a
+/// failure of the device, and any other leaves the disk empty.
 fn is_cause(fault: FormatFault, disk: &mut SimDisk) -> bool {
     match fault {
         FormatFault::Device => disk.was_refused(),
@@ -49,7 +49,7 @@ fn open_again(alloc: Global, disk: SimDisk) -> Result<Opened, NotOpened<SimDisk>
     }
 }
 
-/// The number of the last command, and what a loader is answered then.
+/// The number of the last command, and then the result of adding a loader.
 fn add_to(opened: Opened) -> Option<(u64, u64)> {
     let (mut front, committer) = opened;
     let number = committer.number();

@@ -1,12 +1,12 @@
 //! Moves: the records on a loader's last chunk go to a smaller one, and are found at each moment.
 
 use crate::events::{Exchange, Happens, Told, first_other};
-use cm_prepare::Refusal;
+use cm_commands::Refusal;
 use std::alloc::Global;
 use std::test::*;
 
-/// Two classes of a loader, stored and learnt, the second of which is to move: it fills one block
-/// of 128 words, of the two in its chunk.
+/// Two classes of a loader, stored and learnt, the second of which will move: it fills one block of
+/// 128 words, of the two in its chunk.
 const BEFORE: &[Exchange] = &[
     (Happens::Loader, Told::Number(1)),
     (Happens::Tighten, Told::Refused(Refusal::NoMove)),
@@ -37,8 +37,8 @@ const CALLS: &[Exchange] = &[
     (Happens::Advance, Told::Done(4)),
 ];
 
-/// The ways in which a file is opened, by what comes of the gate's byte where its write is the last
-/// call that was made.
+/// The ways in which a file is opened, and whether each leaves the gate's byte if its write is the
+/// last call that was made.
 const OPENINGS: [(Happens, bool); 4] = [
     (Happens::Reopen, true),
     (Happens::Crash, true),
@@ -46,10 +46,10 @@ const OPENINGS: [(Happens, bool); 4] = [
     (Happens::CrashTo(0xA5), true),
 ];
 
-/// The gate is written by the fourth call, and stored by the fifth.
+/// The gate is written by the fourth call, and made durable by the fifth.
 const GATE: usize = 4;
 
-/// Both classes are found as ever; and if the move isn't there, it can be made again.
+/// Both classes are found as before; and if the move isn't there, it can be made again.
 const MOVED: &[Exchange] = &[
     (Happens::Look, Told::Words(16)),
     (Happens::LookB, Told::Words(128)),
@@ -68,7 +68,7 @@ fn append(list: &mut Vec<Exchange>, part: &[Exchange]) -> Result<(), Fail> {
     Ok(())
 }
 
-// Which event is the first that gets another reply if the file is opened so after these events,
+// Which event is the first with a wrong reply if the file is opened in this way after these events,
 // and the move is there or not.
 fn first_other_of_stop(
     alloc: Global,
@@ -85,7 +85,7 @@ fn first_other_of_stop(
     first_other(alloc, &list)
 }
 
-// Of a stop after this many calls, the first way of opening that goes otherwise.
+// The first way of opening with a wrong reply, after a stop after this many calls.
 fn other_opening(alloc: Global, calls: usize) -> Result<Option<usize>, Fail> {
     let made = CALLS.get(..calls).ok_or("five calls")?;
     for (at, (opened, with_gate)) in OPENINGS.iter().enumerate() {
@@ -103,13 +103,14 @@ fn a_stopped_move_leaves_both_classes(rt: HostRuntime) -> Result<(), Fail> {
         assert_eq!(rt;
             other_opening(rt.alloc(), calls)?,
             None,
-            "behind {calls} calls"
+            "after {calls} calls"
         );
     }
     Ok(())
 }
 
-/// A call that fails, once a write stored some bytes, and whether the move may be there then.
+/// A call that fails, how many bytes a write stored before, and whether the move may be there
+/// afterwards.
 const FAILED: [(usize, usize, bool); 6] = [
     (0, 5, false),
     (1, 0, false),
@@ -141,7 +142,7 @@ fn first_other_of_fault(
 fn a_failed_move_leaves_both_classes(rt: HostRuntime) -> Result<(), Fail> {
     for (calls, stores, is_there) in &FAILED {
         let other = first_other_of_fault(rt.alloc(), *calls, *stores, *is_there)?;
-        assert_eq!(rt; other, None, "behind {calls} calls");
+        assert_eq!(rt; other, None, "after {calls} calls");
     }
     Ok(())
 }

@@ -14,13 +14,13 @@ const FIRST: [Sample; 2] = [Loader(1, b'a'), Class(1, b'A', 0, 0, WORDS)];
 /// Its next class.
 const NEXT: [Sample; 1] = [Class(1, b'B', 0, WORDS, WORDS)];
 
-/// How many calls a group takes, or, if it is refused, whether it came back.
+/// How many calls a group takes or, if it is refused, whether it was handed back.
 type Answer = Result<u64, bool>;
 
 const REFUSED: Answer = Err(true);
 
-/// What comes of a group after the first one, what of the next class then, and the number that is
-/// stored in the end.
+/// The result of a group after the first one, then of the next class, and the number that is stored
+/// at the end.
 type Answers = (Answer, Answer, Option<u64>);
 
 fn offer_both(
@@ -58,7 +58,7 @@ const TAKEN: [(&[Sample], u64, u64); 7] = [
     // in another chunk, and in one of another root
     (&[Class(1, b'B', 128, 0, WORDS)], 5, 3),
     (&[Far(1, b'B')], 6, 3),
-    // the same name in another loader, and in one that has the name of a loader that is gone
+    // the same name in another loader, and in one that has the name of an unloaded loader
     (&[Loader(3, b'b'), Class(3, b'A', 128, 0, WORDS)], 5, 4),
     (
         &[Unload(1), Loader(4, b'a'), Class(4, b'A', 128, 0, WORDS)],
@@ -84,8 +84,8 @@ const REFUSALS: [(u64, &[Sample]); 14] = [
     (1, &NEXT),
     (2, &NEXT),
     (4, &NEXT),
-    // entries that break a rule: of a loader that isn't there, a number that isn't its own, a name
-    // that is taken, a place that is taken, the second entry
+    // entries that break a rule: of a loader that doesn't exist, a number that isn't its own, a
+    // name that is taken, a place that is taken, the second entry
     (3, &[Unload(2)]),
     (3, &[Loader(4, b'b')]),
     (3, &[Loader(3, b'a')]),
@@ -105,7 +105,7 @@ const REFUSALS: [(u64, &[Sample]); 14] = [
             Class(1, b'B', 0, 2 * WORDS, WORDS),
         ],
     ),
-    // a record of another length than its row names
+    // a record of a length other than its row states
     (3, &[Class(1, b'B', 0, WORDS, WORDS + 1)]),
     (
         3,
@@ -127,8 +127,8 @@ fn another_group_comes_back_and_nothing_is_changed(rt: HostRuntime) -> Result<()
     Ok(())
 }
 
-/// Lets the device fail after this many calls of the first group: whether that is told, what comes
-/// of the group then, and how many calls are left.
+/// Makes the device fail after this many calls of the first group. Returns whether that is
+/// reported, the result of the group afterwards, and how many calls are left.
 fn fail_behind(
     alloc: Global,
     committer: &mut Committer<SimDisk>,

@@ -1,14 +1,14 @@
-//! Random commands against a plain model: which loaders live, which classes each has, and which
-//! words are free, are a loader's or wait.
+//! Random commands against a plain model: which loaders are live, which classes each has, and which
+//! words are free, belong to a loader or wait.
 ghost use Rattle.std.specs.Prelude.{◌<◌, ◌≤◌, length};
 
 use crate::commands::classes;
 use crate::fronts::{add_loader, define, empty, tighten, unload, unload_all, words};
 use crate::words::{Chain, ROOTS, Region, TOP, Written};
+use cm_commands::{Prepared, Refusal};
 use cm_front::Front;
 use cm_group::{CarriedEntry, Group, Receipt};
 use cm_layout::{Entry, Row};
-use cm_prepare::{Prepared, Refusal};
 use std::alloc::{AllocError, Global};
 use std::collections::VecDeque;
 use std::test::Fail;
@@ -18,7 +18,7 @@ const LOADERS: usize = 6;
 
 const CLASSES: usize = 8;
 
-/// Names, one for each of them: of one byte, and on both sides of what a slot has room for.
+/// Names, one for each of them: of one byte, and just below and above what a slot has room for.
 const NAMES: [&[u8]; LOADERS] = [
     b"a",
     &[b'b'; 47],
@@ -46,12 +46,12 @@ const SAMPLES: [(u8, u32); CLASSES] = [
 /// What a cache of these holds.
 #[derive(Drop)]
 struct Model {
-    /// The number of each loader that lives.
+    /// The number of each live loader.
     lives: [Option<u64>; LOADERS],
     has: [[bool; CLASSES]; LOADERS],
     chains: [Chain; LOADERS],
     region: Region,
-    /// What each command writes that isn't handed out.
+    /// What each command that isn't handed out writes.
     writes: VecDeque<Written>,
     number: u64,
     sealed: u64,
@@ -70,7 +70,7 @@ impl Model {
         }
     }
 
-    // The next number, whose command writes this.
+    // Takes the next number, for a command that writes this.
     fn accept(&mut self, written: Written) -> Result<u64, Refusal> {
         self.writes.push_back(written).map_err(AllocError::from)?;
         self.number = self.number.wrapping_add(1);
@@ -141,7 +141,7 @@ impl Model {
         self.accept(written)
     }
 
-    // How many words the record has that is to be found.
+    // How many words the record that should be found has.
     fn words(&self, loader: usize, class: usize) -> Option<u32>
         requires loader { loader < 6 }
         requires class { class < 8 }
@@ -195,7 +195,7 @@ fn learns(front: &mut Front, model: &mut Model, choice: u32) -> bool {
     front.learn(Receipt { number }).is_ok()
 }
 
-// Whether one more call gives what the model gives.
+// Whether one more call has the result that the model has.
 fn agrees(front: &mut Front, model: &mut Model, classes: &[Prepared], choice: u32) -> bool
     requires { 8 ≤ length classes.now }
 {
@@ -215,7 +215,7 @@ fn agrees(front: &mut Front, model: &mut Model, classes: &[Prepared], choice: u3
     is_same && words(front, name, &[class as u8 + 0x41]) == model.words(loader, class)
 }
 
-// Which of 10,000 random calls is the first whose answer the model doesn't give.
+// Which of 10,000 random calls is the first whose result the model doesn't have.
 fn first_other(front: &mut Front, model: &mut Model, classes: &[Prepared]) -> Option<u32>
     requires { 8 ≤ length classes.now }
 {
@@ -231,8 +231,8 @@ fn first_other(front: &mut Front, model: &mut Model, classes: &[Prepared]) -> Op
     None
 }
 
-// Which call the model answers otherwise, and whether there were commands, full regions and moves
-// enough.
+// Which call has another result in the model, and whether there were enough commands, full regions
+// and moves.
 fn agree(
     front: &mut Front,
     model: &mut Model,

@@ -1,15 +1,16 @@
-//! Commands one after another if an allocation may fail: what is refused for want of memory
-//! changes nothing that is found, and asked for again it takes the number that was due.
+//! Commands one after another if an allocation may fail: a command that is refused because an
+//! allocation failed changes nothing that is found, and when it is repeated it takes the number
+//! that was due.
 
 use crate::classes::{CLASS_A, class};
 use crate::fronts;
 use crate::fronts::{empty, words};
+use cm_commands::{Command, Prepared, Refusal};
 use cm_front::Front;
-use cm_prepare::{Command, Prepared, Refusal};
 use std::alloc::Global;
 use std::test::Fail;
 
-/// A command on the one loader. A class that is defined stands at a place of the test's list.
+/// A command on the only loader. A class to define is given by its index in the test's list.
 #[derive(Clone, Copy)]
 enum Asked {
     Loader,
@@ -21,7 +22,7 @@ enum Asked {
 /// How many words the classes `A` and `B` have, if they are found.
 type Found = [Option<u32>; 2];
 
-/// A command, what is answered, and what is found then.
+/// A command, its result, and what is then found.
 type Step = (Asked, Result<u64, Refusal>, Found);
 
 fn found(front: &Front, loader: &[u8]) -> Found {
@@ -54,7 +55,8 @@ fn accept(
     }
 }
 
-// What is answered; if memory is refused and nothing has changed, what is answered then.
+// The result of a command; if an allocation failed and nothing has changed, its result when it is
+// repeated.
 fn accept_again(
     front: &mut Front,
     loader: &[u8],
@@ -70,7 +72,7 @@ fn accept_again(
     }
 }
 
-// Which step is the first that goes another way.
+// Which step is the first with a wrong result.
 fn first_wrong(
     front: &mut Front,
     loader: &[u8],

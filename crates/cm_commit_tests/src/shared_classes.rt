@@ -2,12 +2,12 @@
 
 use crate::classes::{CLASS_A, class};
 use crate::fronts::{add_loader, empty};
+use cm_commands::{Command, Prepared, Refusal};
 use cm_front::Front;
-use cm_prepare::{Command, Prepared, Refusal};
 use std::alloc::Global;
 use std::test::Fail;
 
-// A class is defined in one loader by a share of it, and in another by itself.
+// Defines a class in one loader by a share of it, and in another by itself.
 fn define_both(front: &mut Front, class: Prepared) -> Result<[u64; 4], Refusal> {
     let shared = class.share()?;
     Ok([

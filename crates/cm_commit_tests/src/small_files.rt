@@ -23,7 +23,8 @@ pub fn bytes_of(alloc: Global, disk: &mut SimDisk) -> Result<Vec<u8>, Fail> {
     Ok(bytes)
 }
 
-/// What the head of a half says: its gate's byte, how many rows live, its epoch and its base.
+/// What the head of a half says: its gate's byte, how many slots live rows take, its epoch and its
+/// base.
 pub type Head = [u16; 4];
 
 /// The head of a half that begins there.
@@ -54,7 +55,7 @@ fn push_loader(bytes: &mut Vec<u8>, number: u64, name: &[u8]) -> Result<(), Fail
     Ok(())
 }
 
-// The number of each is one more than its name's place.
+// The number of each is one more than the index of its name.
 fn push_loaders(bytes: &mut Vec<u8>, count: usize) -> Result<(), Fail> {
     for at in 0..count {
         push_loader(bytes, at as u64 + 1, name(at))?;
@@ -75,8 +76,8 @@ fn push_half(bytes: &mut Vec<u8>, loaders: usize) -> Result<(), Fail> {
     Ok(())
 }
 
-/// The bytes of a file in whose half 0 this many loaders stand, each in a group of its own. Half 1
-/// was never used.
+/// The bytes of a file with this many loaders in its half 0, each in a group of its own. Half 1 was
+/// never used.
 pub fn file_of_loaders(alloc: Global, loaders: usize) -> Result<Vec<u8>, Fail> {
     let geometry = Geometry::new(3, 2, 256).ok_or("within the limits")?;
     let mut bytes = Superblock { geometry }.encode(alloc)?;
@@ -84,7 +85,7 @@ pub fn file_of_loaders(alloc: Global, loaders: usize) -> Result<Vec<u8>, Fail> {
     Ok(bytes)
 }
 
-/// A disk of these bytes, which are stored.
+/// A disk of these bytes, which are durable.
 pub fn disk_of(alloc: Global, bytes: &[u8]) -> Result<SimDisk, Fail> {
     let mut disk = SimDisk::new(alloc);
     if bytes.len() < 100_000 {

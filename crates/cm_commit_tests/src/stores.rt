@@ -5,11 +5,11 @@ use crate::calls::{Answer, Call, make};
 use crate::commands::classes;
 use crate::committers::{new_committer, new_file, offer, open_committer, store};
 use crate::groups::{Sample, WORDS};
+use cm_commands::Prepared;
 use cm_commit::Committer;
 use cm_disk::{Choice, SimDisk};
 use cm_front::Front;
 use cm_group::Receipt;
-use cm_prepare::Prepared;
 use std::alloc::Global;
 use std::test::*;
 
@@ -20,9 +20,9 @@ const CLASSES: [(u8, u32); 2] = [(b'A', 0), (b'B', 0)];
 const GROUPS: [(&[Call], u64, u64); 5] = [
     // the slots, the gate and two syncs
     (&[Call::AddLoader(b'a')], 4, 1),
-    // a root and a record besides
+    // one more root and one more record
     (&[Call::Define(b'a', 0)], 6, 2),
-    // two records in the root that is there
+    // two records in the root that exists
     (
         &[
             Call::Define(b'a', 1),
@@ -45,8 +45,8 @@ fn accept_all(front: &mut Front, classes: &[Prepared], calls: &[Call]) -> bool {
     true
 }
 
-/// Hands over what was accepted, and stores it: how many device calls that takes, and the number
-/// that is stored.
+/// Hands over what was accepted, and stores it. Returns how many device calls that takes, and the
+/// number that is stored.
 pub fn commit(front: &mut Front, committer: &mut Committer<SimDisk>) -> Option<(u64, u64)> {
     let group = front.seal()?;
     if committer.offer(group).is_err() {
@@ -60,7 +60,7 @@ pub fn commit(front: &mut Front, committer: &mut Committer<SimDisk>) -> Option<(
     }
 }
 
-// Which group is the first that goes another way.
+// Which group is the first with a wrong result.
 fn first_other(
     front: &mut Front,
     committer: &mut Committer<SimDisk>,
@@ -94,7 +94,7 @@ fn find_and_close(front: &Front, committer: Committer<SimDisk>) -> ([Option<u32>
     (find_three(front), number)
 }
 
-/// How many words each class has that is found when the file is opened again, and the number of the
+/// How many words each class that is found has when the file is opened again, and the number of the
 /// last command.
 fn find_again(alloc: Global, disk: SimDisk) -> Result<([Option<u32>; 3], u64), Fail> {
     match open_committer(alloc, disk) {
@@ -113,7 +113,7 @@ fn store_and_close(
     (other, committer.into_disk())
 }
 
-/// Which group goes another way on a new file, and the disk after them.
+/// Which group has a wrong result on a new file, and the disk after them.
 fn store_groups(alloc: Global, classes: &[Prepared]) -> Result<(Option<usize>, SimDisk), Fail> {
     match open_committer(alloc, new_file(alloc)?) {
         Ok((mut front, committer)) => Ok(store_and_close(&mut front, committer, classes)),
@@ -162,8 +162,8 @@ fn find_after_crash(alloc: Global, calls: u64, choice: &Choice) -> Result<u64, F
     Ok(number)
 }
 
-/// The number that is found after a crash after this many device calls of a group, where bytes that
-/// may have stayed are these.
+/// The number that is found after a crash after this many device calls of a group, if the bytes
+/// that may have stayed are these.
 fn find_after(alloc: Global, calls: u64, fill: &[u8]) -> Result<u64, Fail> {
     let choice = Choice {
         len: 1 << 20,
@@ -172,15 +172,15 @@ fn find_after(alloc: Global, calls: u64, fill: &[u8]) -> Result<u64, Fail> {
     find_after_crash(alloc, calls, &choice)
 }
 
-/// The number that is found where what isn't synced is left as 0, and if it is left as written.
+/// The number that is found if what isn't synced is left as 0, and if it is left as written.
 fn find_late_and_soon(alloc: Global, calls: u64) -> Result<[u64; 2], Fail> {
     let late = find_after(alloc, calls, b"\0")?;
     let soon = find_after(alloc, calls, b"")?;
     Ok([late, soon])
 }
 
-/// How many calls are made, and what is found then. The gate is written by the fifth call, and
-/// stored by the sixth.
+/// How many calls are made, and what is then found. The gate is written by the fifth call, and made
+/// durable by the sixth.
 const CRASHES: [(u64, [u64; 2]); 7] = [
     (0, [0, 0]),
     (1, [0, 0]),

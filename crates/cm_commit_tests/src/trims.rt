@@ -1,4 +1,4 @@
-//! Trims: a file is cut after the last root that committed rows use.
+//! Trims: a file is truncated after the last root that committed rows use.
 
 use crate::committers::{new_committer, offer, store};
 use crate::events::{Exchange, Happens, Told, first_other, first_other_and_bytes, push_parts};
@@ -9,7 +9,7 @@ use cm_disk::SimDisk;
 use std::alloc::Global;
 use std::test::*;
 
-/// A loader with a class, stored and learnt; then the loader goes, and so does this.
+/// A loader with a class, stored and learnt; then the loader is unloaded, and that is stored too.
 const UNLOADED: &[Exchange] = &[
     (Happens::Loader, Told::Number(1)),
     (Happens::Define, Told::Number(2)),
@@ -43,7 +43,7 @@ const TRIMMED: &[Exchange] = &[
     (Happens::Advance, Told::Idle),
 ];
 
-/// The class again, in a new loader: it takes six device calls, as the first did.
+/// The class again, in a new loader: it takes six device calls, like the first.
 const AGAIN: &[Exchange] = &[
     (Happens::Loader, Told::Number(4)),
     (Happens::Define, Told::Number(5)),
@@ -64,7 +64,7 @@ const WITHOUT_ROOTS: usize = 36_864;
 
 const WITH_ONE: usize = 45_056;
 
-/// Which event of these parts is the first that gets another reply, and how long the file is then.
+/// Which event of these parts is the first with a wrong reply, and how long the file then is.
 fn other_and_length(alloc: Global, parts: &[&[Exchange]]) -> Result<(Option<usize>, usize), Fail> {
     let mut list = Vec::new(alloc);
     push_parts(&mut list, parts).ok_or("memory")?;
@@ -83,8 +83,8 @@ fn a_trim_gives_roots_back(rt: HostRuntime) -> Result<(), Fail> {
     Ok(())
 }
 
-/// The trim's first events, a fault among them if the call after it fails; how the file is
-/// opened then; and whether the root is still there.
+/// The trim's first events, including a fault if the call after it fails; how the file is then
+/// opened; and whether the root is still there.
 const STOPS: [(&[Exchange], Happens, bool); 12] = [
     (&[], Happens::Crash, true),
     (&[], Happens::Reopen, true),
@@ -155,7 +155,7 @@ fn a_stopped_trim_leaves_what_is_committed(rt: HostRuntime) -> Result<(), Fail> 
     Ok(())
 }
 
-/// A group that is stored, how many roots rows use then, and whether a trim is due.
+/// A group that is stored, how many roots rows then use, and whether a trim is due.
 const STORED: [(u64, &[Sample], u32, bool); 4] = [
     (1, &[Loader(1, b'a'), Class(1, b'A', 0, 0, WORDS)], 1, false),
     (3, &[Loader(3, b'b'), Far(3, b'B')], 2, false),
@@ -163,7 +163,7 @@ const STORED: [(u64, &[Sample], u32, bool); 4] = [
     (6, &[Unload(1)], 0, true),
 ];
 
-/// How many roots rows use, whether a trim is due, and how many device calls are left then.
+/// How many roots rows use, whether a trim is due, and how many device calls are then left.
 type Trim = (u32, Result<bool, NotIdle>, u64);
 
 fn trim(committer: &mut Committer<SimDisk>) -> Trim {
@@ -198,7 +198,8 @@ fn first_other_trim(
     Ok(None)
 }
 
-/// Makes the calls of a trim that is due: whether it takes two, and says this many roots.
+/// Makes the calls of a trim that is due. Returns whether it takes two, and reports this many
+/// roots.
 fn finish(committer: &mut Committer<SimDisk>, roots: u32, due: bool) -> bool {
     if !due {
         return true;

@@ -2,7 +2,7 @@
 //! each takes, and of moments at which a crash comes.
 
 use crate::events::{Exchange, Happens, Told};
-use cm_prepare::Refusal;
+use cm_commands::Refusal;
 
 /// Bytes that names of loaders have: 91 of them, each once.
 const LETTERS: &[u8] = b"!#$%&'()*+-./0123456789:;<=>?@ABCDEFGHIJKLMNOPQRSTUVWXYZ[]^_`\
@@ -14,33 +14,33 @@ const TWICE: &[u8] = b"!#$%&'()*+-./0123456789:;<=>?@ABCDEFGHIJKLMNOPQRSTUVWXYZ[
     !#$%&'()*+-./0123456789:;<=>?@ABCDEFGHIJKLMNOPQRSTUVWXYZ[]^_`\
     abcdefghijklmnopqrstuvwxyz{|}~";
 
-/// The name of a loader by its turn: of 181 in a row no two have the same.
+/// The name of a loader by its turn: of 181 consecutive ones no two are the same.
 pub fn name(turn: usize) -> &'static [u8] {
     let at = turn % 181;
     let (from, long) = if at < 91 { (at, 1) } else { (at - 91, 2) };
     LETTERS.get(from..from + long).unwrap_or(&[])
 }
 
-/// A name of 96 bytes by its turn: of 86 in a row no two have the same.
+/// A name of 96 bytes by its turn: of 86 consecutive ones no two are the same.
 pub fn long_name(turn: usize) -> &'static [u8] {
     let at = turn % 86;
     TWICE.get(at..at + 96).unwrap_or(&[])
 }
 
-/// A group: how many of the oldest loaders go, how many come then, and how many device calls it
-/// takes.
+/// A group: how many of the oldest loaders are unloaded, how many are then added, and how many
+/// device calls it takes.
 pub type Turn = (usize, usize, usize);
 
-/// How many times a group comes.
+/// How many times a group is made.
 pub type Run = (usize, Turn);
 
-/// How a group is stopped: after this many device calls; in the next, if it is told how many
-/// bytes that stores; and then.
+/// How a group is stopped: after this many device calls; in the next, if it says how many bytes
+/// that call stores; and what happens then.
 pub type Stop = (usize, Option<usize>, Happens);
 
 const FULL: Told = Told::Refused(Refusal::JournalFull);
 
-/// Whose turn it is: how many loaders have come and gone, and the number of the last command.
+/// Whose turn it is: how many loaders were added and unloaded, and the number of the last command.
 #[derive(Clone, Copy)]
 pub struct Course {
     pub come: usize,
@@ -48,7 +48,7 @@ pub struct Course {
     pub number: u64,
 }
 
-/// Nothing has come yet.
+/// Nothing was added yet.
 pub const START: Course = Course {
     come: 0,
     gone: 0,
@@ -61,14 +61,14 @@ impl Course {
         Told::Number(self.number)
     }
 
-    // The oldest loader goes.
+    // The oldest loader is unloaded.
     fn go(&mut self) -> Exchange {
         let gone = self.gone;
         self.gone = gone.wrapping_add(1);
         (Happens::Goes(name(gone)), self.next_number())
     }
 
-    // The next loader comes.
+    // The next loader is added.
     fn come(&mut self) -> Exchange {
         let come = self.come;
         self.come = come.wrapping_add(1);
@@ -123,7 +123,7 @@ fn push_turn(list: &mut Vec<Exchange>, course: &mut Course, turn: Turn) -> Optio
         .ok()
 }
 
-/// The file is opened again, and has the oldest loader and the newest one, where any lives.
+/// The file is opened again, and has the oldest loader and the newest one, if any is live.
 pub fn push_opening(list: &mut Vec<Exchange>, course: &Course) -> Option<()> {
     list.push((Happens::Reopen, Told::Opened(course.number)))
         .ok()?;
@@ -136,7 +136,7 @@ pub fn push_opening(list: &mut Vec<Exchange>, course: &Course) -> Option<()> {
     Some(())
 }
 
-// A group this many times; after each the file is opened again where that is asked for.
+// A group this many times; after each the file is opened again if `opens` says so.
 fn push_run(list: &mut Vec<Exchange>, course: &mut Course, run: Run, opens: bool) -> Option<()> {
     let (times, turn) = run;
     for _time in 0..times {
@@ -148,7 +148,7 @@ fn push_run(list: &mut Vec<Exchange>, course: &mut Course, run: Run, opens: bool
     Some(())
 }
 
-/// Groups one after another; after each the file is opened again where that is asked for.
+/// Groups one after another; after each the file is opened again if `opens` says so.
 pub fn push_runs(
     list: &mut Vec<Exchange>,
     course: &mut Course,
@@ -161,7 +161,7 @@ pub fn push_runs(
     Some(())
 }
 
-// If a call fails that stores this many bytes.
+// A fault, if the next call is to fail after storing this many bytes.
 fn push_fault(list: &mut Vec<Exchange>, stores: Option<usize>) -> Option<()> {
     if let Some(stores) = stores {
         list.push((Happens::Fault(stores), Told::Armed)).ok()?;
@@ -170,8 +170,8 @@ fn push_fault(list: &mut Vec<Exchange>, stores: Option<usize>) -> Option<()> {
     Some(())
 }
 
-/// A group is handed out, after which there is no room for one loader more, and stopped: the file
-/// is as if it had never come.
+/// A group is handed out, after which there is no room for one more loader, and stopped: the file
+/// is as if the group had never existed.
 pub fn push_stop(
     list: &mut Vec<Exchange>,
     course: &Course,

@@ -1,8 +1,9 @@
-//! A plain model of the words of a region: which are free, which loader has which, and which wait.
+//! A plain model of the words of a region: which are free, which belong to which loader, and which
+//! wait.
 ghost use Rattle.std.specs.Prelude.{◌<◌, IfSome};
 
+use cm_commands::Refusal;
 use cm_pool::{Chunk, Place};
-use cm_prepare::Refusal;
 
 /// The order of a root, and how many there can be.
 pub const TOP: u32 = 5;
@@ -22,7 +23,7 @@ enum Words {
     Free,
     /// In a chunk of the loader of this number.
     Owned(u64),
-    /// Left by the command of this number, which isn't known to be stored.
+    /// Left by the command of this number, which isn't known to be durable.
     Waiting(u64),
 }
 
@@ -51,7 +52,7 @@ impl Chain {
         records: 0,
     };
 
-    // The place on the top of the last chunk, where that has room.
+    // The place on top of the last chunk, if that has room.
     fn on_top(&self, words: u32) -> Option<Place> {
         let (chunk, offset) = self.last?;
         if offset.wrapping_add(words) > 128 << chunk.order.min(TOP) {
@@ -133,7 +134,7 @@ impl Region {
         added > 0
     }
 
-    // Where the first chunk of an order lies whose words are all free.
+    // The block where the first chunk of an order begins whose words are all free.
     fn first_free(&self, order: u32) -> Option<usize>
         ensures { IfSome result (λ block. block < 128) }
     {
@@ -154,7 +155,7 @@ impl Region {
         Some(chunk)
     }
 
-    // The words of a chunk become this.
+    // Marks the words of a chunk as these.
     fn mark(&mut self, chunk: Chunk, becomes: Words) {
         let first = chunk.root as usize * ROOT_BLOCKS + chunk.at as usize / 128;
         let size = 1 << chunk.order.min(TOP);
@@ -163,7 +164,7 @@ impl Region {
         }
     }
 
-    // A chunk of the order wanted, or else of the one needed, or else out of a new root.
+    // A chunk of the wanted order, or else of the needed one, or else from a new root.
     fn fetch(&mut self, loader: u64, wanted: u32, need: u32) -> Option<Chunk> {
         if let Some(chunk) = self.take(loader, wanted) {
             return Some(chunk);
@@ -178,7 +179,7 @@ impl Region {
         self.take(loader, wanted)
     }
 
-    /// The place of a record of a loader, which gets another chunk where its last one has no room.
+    /// The place of a record of a loader, which gets another chunk if its last one has no room.
     pub fn place(&mut self, loader: u64, chain: &mut Chain, words: u32) -> Result<Place, Refusal> {
         let place = match chain.on_top(words) {
             Some(place) => place,
@@ -230,7 +231,7 @@ impl Region {
         }
     }
 
-    /// The words are free that wait for at most this number.
+    /// The words that wait for at most this number are freed.
     pub fn learn(&mut self, known: u64) {
         for words in &mut self.blocks {
             if matches!(*words, Words::Waiting(number) if number <= known) {

@@ -1,4 +1,4 @@
--- What a table has of each slot.
+-- What a table has for each slot.
 -- For `Subject::judgement`, `Subject::utf8s_have_form`.
 use Rattle.std.proofs.Common.{◌≡◌, ℕ, zero, suc, ◌-◌, List, [], ◌∷◌, map, refl, ap, ◌∙◌, arith}
 use Rattle.std.specs.Prelude.{◌&&◌, slice_get, unwrap_or, option_and_then}
@@ -8,11 +8,11 @@ use Rattle.cm_class.specs.declared.constant.Constant.TheVariants as constant
 use Rattle.cm_class.specs.declared.constant.Slot.{Slot}
 use Rattle.cm_class.specs.declared.constant.Slot.TheVariants.{Usable, Unusable}
 use Rattle.cm_class.specs.declared.class_file.ClassFile.{ClassFile}
-use Rattle.cm_names.specs.declared.judgement.Judgement.{Judgement}
+use Rattle.cm_descriptors.specs.declared.judgement.Judgement.{Judgement}
 use Rattle.cm_class.specs.Names.{constant_in, utf8, utf8_in}
 use Rattle.cm_class.specs.Spelling.{ClassConstant}
-use Rattle.cm_names.specs.Judgement.{judgement}
-use Rattle.cm_names.specs.Forms.{has_utf8_form, has_utf8_form_after}
+use Rattle.cm_descriptors.specs.Judgement.{judgement}
+use Rattle.cm_descriptors.specs.Forms.{has_utf8_form, has_utf8_form_after}
 use Rattle.cm_constraints.specs.Subject.{judgement_in}
 use Rattle.cm_constraints.specs.Constants.{in_slot}
 use Rattle.cm_constraints.specs.Constants.{utf8_has_form}
@@ -25,7 +25,7 @@ look_up (Usable c ∷ slots) zero = refl
 look_up (Unusable ∷ slots) zero = refl
 look_up (slot ∷ slots) (suc i) = look_up slots i
 
--- at an index that isn't 0
+-- the table at an index that isn't 0
 pub at_index : (c : ClassFile) (table : List Judgement) (index : ℕ)
     → table ≡ map judgement_in c.slots → (index ≡ 0 → ⊥)
     → unwrap_or (slice_get table (index - 1)) (judgement []) ≡ judgement (utf8 c index)
@@ -38,7 +38,7 @@ at_index c table (suc i) is nonzero =
 pub at_zero : (c : ClassFile) → judgement [] ≡ judgement (utf8 c 0)
 at_zero c = refl
 
--- ---- the form of Utf8s; no bytes have it too
+-- ---- the form of Utf8s; the empty one has it too
 
 utf8_in_slot : (slot : Slot) → (judgement_in slot).utf8 ≡ in_slot utf8_has_form slot
 unfolding judgement has_utf8_form has_utf8_form_after

@@ -1,4 +1,5 @@
--- What is asked of the attributes of fields, methods and the class (JVMS SE 8, section 4.7).
+-- What the rules require of the attributes of fields, methods and the class (JVMS SE 8, section
+-- 4.7).
 use Rattle.std.specs.Prelude.{ℕ, Bool, ◌&&◌, ◌||◌, not, List, [], ◌∷◌, nat_le}
 use Rattle.std.specs.List.{list_all}
 use Rattle.cm_class.specs.Names.{utf8}
@@ -11,7 +12,7 @@ use Rattle.cm_attributes.specs.Names.{is_known, count_of, with_name, first_place
 use Rattle.cm_attributes.specs.Contents.{is_content, is_value_of}
 use Rattle.cm_constraints.specs.Flags.{acc_static, has, implies}
 
--- where an attribute is one of these by its name, it has that one's content
+-- if an attribute is one of these by its name, it has that one's content
 abbrev pub has_content_of : ClassFile → List Known → Attribute → Bool
 has_content_of c among a =
     list_all (λ which. implies (is_known c which a) (is_content c which a.bytes)) among
@@ -29,7 +30,7 @@ abbrev pub are_values_of : ClassFile → List ℕ → List Attribute → Bool
 are_values_of c descriptor attributes =
     list_all (λ a. is_value_of c descriptor a.bytes) (with_name c known.ConstantValue attributes)
 
--- that of a static field is one of the field's
+-- the value of a static field is one of the field's type
 abbrev pub values_agree : ClassFile → Member → Bool
 values_agree c m =
     not (has m.flags acc_static) || are_values_of c (utf8 c m.descriptor) m.attributes

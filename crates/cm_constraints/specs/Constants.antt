@@ -1,15 +1,16 @@
--- What is asked of one constant of the pool (JVMS SE 8, sections 4.4.1 to 4.4.10). Each is read
--- only where those above it hold.
+-- What the rules require of one constant of the pool (JVMS SE 8, sections 4.4.1 to 4.4.10). Each
+-- definition presupposes that those above it hold.
 use Rattle.std.specs.Prelude.{ℕ, Bool, true, false, ◌&&◌, ◌||◌, not, ◌==◌, if◌then◌else◌}
 use Rattle.std.specs.Prelude.{List, Option, Some, None, bytes_eq, nat_lt}
 use Rattle.cm_class.specs.declared.constant.Constant.TheVariants as constant
 use Rattle.cm_class.specs.declared.constant.Slot.{Slot}
 use Rattle.cm_class.specs.declared.class_file.ClassFile.{ClassFile}
 use Rattle.cm_attributes.specs.Contents.{bootstrap_count}
-use Rattle.cm_names.specs.Forms.{has_utf8_form, is_unqualified_name, is_method_name}
-use Rattle.cm_names.specs.Forms.{is_class_name, is_field_descriptor, is_array_descriptor}
-use Rattle.cm_names.specs.Forms.{is_method_descriptor, begins_with, ends_in_void, init, clinit}
-use Rattle.cm_names.specs.Forms.{less}
+use Rattle.cm_descriptors.specs.Forms.{has_utf8_form, is_unqualified_name, is_method_name}
+use Rattle.cm_descriptors.specs.Forms.{is_class_name, is_field_descriptor, is_array_descriptor}
+use Rattle.cm_descriptors.specs.Forms.{is_method_descriptor, begins_with, ends_in_void, init}
+use Rattle.cm_descriptors.specs.Forms.{clinit}
+use Rattle.cm_descriptors.specs.Forms.{less}
 use Rattle.cm_class.specs.declared.kind.Kind.TheVariants as kinds
 use Rattle.cm_constraints.specs.declared.reference_kind.ReferenceKind.{ReferenceKind}
 use Rattle.cm_constraints.specs.declared.reference_kind.ReferenceKind.TheVariants as handles
@@ -18,11 +19,11 @@ use Rattle.cm_class.specs.Names.{constant_in, is_kind, names, names_such, pair_d
 use Rattle.cm_class.specs.Names.{pair_name, reference_name, utf8}
 use Rattle.cm_class.specs.Spelling.{ClassConstant}
 
--- a test of what stands in a slot; the second slot of a constant has nothing
+-- a test of the constant in a slot; the second slot of a constant passes
 abbrev pub in_slot : (ClassConstant → Bool) → Slot → Bool
 in_slot test slot = option_map_or test (constant_in slot) true
 
--- a Utf8 has its form (JVMS 4.4.7)
+-- a Utf8 has the right form (JVMS 4.4.7)
 abbrev pub utf8_has_form : ClassConstant → Bool
 utf8_has_form (constant.Utf8 bytes) = has_utf8_form bytes
 utf8_has_form _ = true
@@ -32,7 +33,7 @@ abbrev pub names_member : ClassFile → ℕ → ℕ → Bool
 names_member c class name_and_type =
     names kinds.Class c class && names kinds.NameAndType c name_and_type
 
--- each index names a constant of its kind (what method handles name says `handle_has_kind`)
+-- each index names a constant of its kind (`handle_has_kind` says what method handles name)
 abbrev pub names_kinds : ClassFile → ClassConstant → Bool
 names_kinds c (constant.Class name) = names kinds.Utf8 c name
 names_kinds c (constant.String utf8) = names kinds.Utf8 c utf8
@@ -93,7 +94,7 @@ abbrev pub names_method : ClassFile → ℕ → Bool
 names_method c pair =
     is_method_name (pair_name c pair) && is_method_descriptor (pair_descriptor c pair)
 
--- Of the names that begin with `<` only `<init>` is called, and it returns nothing (JVMS 4.4.2).
+-- Among the names that begin with `<` only `<init>` is called, and it returns nothing (JVMS 4.4.2).
 abbrev pub is_callable : ClassFile → ℕ → Bool
 is_callable c pair =
     not (begins_with less (pair_name c pair))
@@ -113,7 +114,7 @@ abbrev pub method_type_is_formed : ClassFile → ClassConstant → Bool
 method_type_is_formed c (constant.MethodType descriptor) = is_method_descriptor (utf8 c descriptor)
 method_type_is_formed c _ = true
 
--- one kind makes an object, and the others that call a method make none (JVMS 4.4.8)
+-- one kind creates an object, and the others that call a method don't (JVMS 4.4.8)
 abbrev pub name_fits : Option ReferenceKind → List ℕ → Bool
 name_fits (Some handles.GetField) name = true
 name_fits (Some handles.GetStatic) name = true

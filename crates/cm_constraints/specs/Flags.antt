@@ -1,4 +1,4 @@
--- The access flags, and which of them agree (JVMS SE 8, tables 4.1-A, 4.5-A and 4.6-A).
+-- The access flags, and which combinations agree (JVMS SE 8, tables 4.1-A, 4.5-A and 4.6-A).
 use Rattle.std.specs.Prelude.{ℕ, ◌+◌, Bool, not, ◌&&◌, ◌||◌, ◌==◌, nat_le, bit_and, if◌then◌else◌}
 
 abbrev pub acc_public : ℕ
@@ -16,23 +16,23 @@ acc_static = 0x0008
 abbrev pub acc_final : ℕ
 acc_final = 0x0010
 
--- of a class
+-- for a class
 abbrev pub acc_super : ℕ
 acc_super = 0x0020
 
--- of a method
+-- for a method
 abbrev pub acc_synchronized : ℕ
 acc_synchronized = 0x0020
 
--- of a field
+-- for a field
 abbrev pub acc_volatile : ℕ
 acc_volatile = 0x0040
 
--- of a method
+-- for a method
 abbrev pub acc_bridge : ℕ
 acc_bridge = 0x0040
 
--- of a field
+-- for a field
 abbrev pub acc_transient : ℕ
 acc_transient = 0x0080
 
@@ -54,24 +54,24 @@ acc_annotation = 0x2000
 abbrev pub acc_enum : ℕ
 acc_enum = 0x4000
 
--- a flag is set, or of several, which are added up, at least one
+-- a flag is set; for several flags, added up, at least one is
 abbrev pub has : ℕ → ℕ → Bool
 has flags some = not (bit_and flags some == 0)
 
--- both, or the first doesn't hold
+-- the first doesn't hold, or both do
 abbrev pub implies : Bool → Bool → Bool
 implies a b = not a || b
 
 abbrev pub one_if : Bool → ℕ
 one_if b = if b then 1 else 0
 
--- how many of public, private and protected
+-- how many of public, private and protected are set
 abbrev pub visibilities : ℕ → ℕ
 visibilities flags =
     one_if (has flags acc_public) + one_if (has flags acc_private) + one_if
     (has flags acc_protected)
 
--- ---- of a class (JVMS 4.1)
+-- ---- flags of a class (JVMS 4.1)
 
 abbrev pub not_of_interface : ℕ
 not_of_interface = acc_final + acc_super + acc_enum
@@ -82,7 +82,7 @@ class_flags_agree flags =
     then has flags acc_abstract && not (has flags not_of_interface)
     else not (has flags acc_annotation) && not (has flags acc_final && has flags acc_abstract)
 
--- ---- of a field (JVMS 4.5)
+-- ---- flags of a field (JVMS 4.5)
 
 abbrev pub not_of_interface_field : ℕ
 not_of_interface_field = acc_private + acc_protected + acc_volatile + acc_transient + acc_enum
@@ -92,13 +92,13 @@ interface_field_agrees flags =
     has flags acc_public && has flags acc_static && has flags acc_final
     && not (has flags not_of_interface_field)
 
--- in a class of these flags
+-- a field's flags agree, in a class of these flags
 unfoldable pub field_flags_agree : ℕ → ℕ → Bool
 field_flags_agree of_class flags =
     nat_le (visibilities flags) 1 && not (has flags acc_final && has flags acc_volatile)
     && implies (has of_class acc_interface) (interface_field_agrees flags)
 
--- ---- of a method (JVMS 4.6)
+-- ---- flags of a method (JVMS 4.6)
 
 abbrev pub not_with_abstract : ℕ
 not_with_abstract =
@@ -116,13 +116,13 @@ interface_method_agrees flags =
     one_if (has flags acc_public) + one_if (has flags acc_private) == 1
     && not (has flags not_of_interface_method)
 
--- in a class of these flags
+-- a method's flags agree, in a class of these flags
 unfoldable pub method_flags_agree : ℕ → ℕ → Bool
 method_flags_agree of_class flags =
     nat_le (visibilities flags) 1
     && implies (has flags acc_abstract) (not (has flags not_with_abstract))
     && implies (has of_class acc_interface) (interface_method_agrees flags)
 
--- asked of a constructor too
+-- required of a constructor in addition
 abbrev pub constructor_flags_agree : ℕ → Bool
 constructor_flags_agree flags = not (has flags not_of_constructor)

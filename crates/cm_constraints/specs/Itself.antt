@@ -1,8 +1,9 @@
--- What is asked of the class itself (JVMS SE 8, section 4.1). Of its flags see `specs/Flags.antt`.
+-- What the rules require of the class itself (JVMS SE 8, section 4.1). For its flags see
+-- `specs/Flags.antt`.
 use Rattle.std.specs.Prelude.{ℕ, Bool, ◌||◌, not, List, ◌==◌, if◌then◌else◌, bytes_eq, codes}
 use Rattle.cm_class.specs.Names.{class_name_of, class_name}
 use Rattle.cm_class.specs.declared.class_file.ClassFile.{ClassFile}
-use Rattle.cm_names.specs.Forms.{begins_with, bracket}
+use Rattle.cm_descriptors.specs.Forms.{begins_with, bracket}
 use Rattle.cm_constraints.specs.Flags.{acc_interface, has}
 
 abbrev pub this_is_no_array : ClassFile → Bool

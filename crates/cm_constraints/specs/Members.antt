@@ -1,5 +1,5 @@
--- What is asked of one field or method (JVMS SE 8, sections 4.5 and 4.6). Each is read only where
--- those above it hold.
+-- What the rules require of one field or method (JVMS SE 8, sections 4.5 and 4.6). Each definition
+-- presupposes that those above it hold.
 use Rattle.std.specs.Prelude.{◌+◌, Bool, false, ◌&&◌, ◌||◌, nat_le, bytes_eq, ◌==◌, if◌then◌else◌}
 use Rattle.std.specs.Option.{option_map_or}
 use Rattle.std.specs.List.{list_all}
@@ -7,15 +7,15 @@ use Rattle.cm_class.specs.Names.{names, utf8}
 use Rattle.cm_class.specs.declared.kind.Kind.TheVariants as kinds
 use Rattle.cm_class.specs.declared.class_file.Member.{Member}
 use Rattle.cm_class.specs.declared.class_file.ClassFile.{ClassFile}
-use Rattle.cm_names.specs.Forms.{is_unqualified_name, is_method_name, is_field_descriptor}
-use Rattle.cm_names.specs.Forms.{is_method_descriptor, method_units, init, clinit}
+use Rattle.cm_descriptors.specs.Forms.{is_unqualified_name, is_method_name, is_field_descriptor}
+use Rattle.cm_descriptors.specs.Forms.{is_method_descriptor, method_units, init, clinit}
 use Rattle.cm_attributes.specs.declared.known.Known.TheVariants as known
 use Rattle.cm_attributes.specs.Names.{count_of, with_name}
 use Rattle.cm_attributes.specs.Contents.{is_content}
 use Rattle.cm_constraints.specs.Flags.{acc_static, acc_native, acc_abstract, has, implies}
 use Rattle.cm_constraints.specs.Flags.{method_flags_agree, constructor_flags_agree}
 
--- its name, its descriptor and the names of its attributes are Utf8s
+-- the name and the descriptor of a member, and the names of its attributes, are Utf8s
 abbrev pub names_utf8s : ClassFile → Member → Bool
 names_utf8s c m =
     names kinds.Utf8 c m.name && names kinds.Utf8 c m.descriptor

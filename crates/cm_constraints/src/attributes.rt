@@ -1,4 +1,4 @@
-//! What is asked of the attributes of fields, methods and the class.
+//! What the rules require of the attributes of fields, methods and the class.
 ghost use Rattle.std.specs.Prelude.{◌≡◌};
 ghost use Rattle.std.specs.List.{list_all};
 ghost use Rattle.cm_constraints.specs.Attributes.{has_content_of, are_values_of, values_agree};
@@ -85,7 +85,7 @@ fn values_agree(class: &Class, field: &Member) -> bool
 }
 
 /// Whether a field's attributes have their contents, with at most one ConstantValue, which is of
-/// the field's type where the field is static (JVMS 4.7.2, 4.7.8, 4.7.9, 4.7.15).
+/// the field's type if the field is static (JVMS 4.7.2, 4.7.8, 4.7.9, 4.7.15).
 pub fn field_attributes_are_right(class: &Class, field: &Member) -> bool
     ensures { result ≡ field_attributes_are_right class.now field.now }
 {
@@ -95,7 +95,7 @@ pub fn field_attributes_are_right(class: &Class, field: &Member) -> bool
         && values_agree(class, field)
 }
 
-/// Whether a method's attributes but its code have their contents, with at most one Exceptions
+/// Whether a method's attributes, except its code, have their contents, with at most one Exceptions
 /// (JVMS 4.7.5, 4.7.8, 4.7.9, 4.7.15).
 pub fn method_attributes_are_right(class: &Class, method: &Member) -> bool
     ensures { result ≡ method_attributes_are_right class.now method.now }
@@ -106,7 +106,7 @@ pub fn method_attributes_are_right(class: &Class, method: &Member) -> bool
 }
 
 /// Whether an attribute of the class at a place is none of these, or the first of its name. The
-/// places are looked through for an attribute of such a name alone, of which a second one ends the
+/// places are searched only for an attribute with such a name; a second one with the name ends the
 /// search.
 fn is_first_of(class: &Class, among: &[Known], place: usize, attribute: &Attribute) -> bool
     ensures { result ≡ is_first_of class.now among.now place attribute.now }
@@ -116,7 +116,7 @@ fn is_first_of(class: &Class, among: &[Known], place: usize, attribute: &Attribu
 }
 
 /// Whether an attribute of the class at a place has its content, and no attribute of its name
-/// before it where a class has at most one (JVMS 4.7.6 to 4.7.10, 4.7.15).
+/// before it if a class has at most one (JVMS 4.7.6 to 4.7.10, 4.7.15).
 pub fn class_attribute_is_right(class: &Class, place: usize, attribute: &Attribute) -> bool
     ensures { result ≡ class_attribute_is_right class.now place attribute.now }
 {

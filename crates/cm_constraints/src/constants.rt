@@ -1,4 +1,4 @@
-//! What is asked of one constant of the pool.
+//! What the rules require of one constant of the pool.
 ghost use Rattle.std.specs.Prelude.{◌≡◌};
 ghost use Rattle.cm_class.specs.Names.{names_such};
 ghost use Rattle.cm_constraints.specs.Constants.{utf8_has_form, names_member, names_kinds};
@@ -12,9 +12,9 @@ ghost use Rattle.cm_constraints.specs.Constants.{dynamic_call_is_bound};
 use crate::reference_kind::ReferenceKind;
 use crate::subject::Subject;
 use cm_class::{Bytes, Class, Constant, Kind};
-use cm_names::{begins_with, ends_in_void, has_utf8_form};
+use cm_descriptors::{begins_with, ends_in_void, has_utf8_form};
 
-/// Whether a Utf8 has its form (JVMS 4.4.7).
+/// Whether a Utf8 has the right form (JVMS 4.4.7).
 pub fn utf8_has_form(constant: &Constant<Bytes>) -> bool
     ensures { result ≡ utf8_has_form constant.now }
 {
@@ -31,8 +31,8 @@ fn names_member(class: &Class, of: u16, name_and_type: u16) -> bool
     class.names(of, Kind::Class) && class.names(name_and_type, Kind::NameAndType)
 }
 
-/// Whether each index in a constant names one of the kind that it has to name; of what a method
-/// handle names see `handle_has_kind` (JVMS 4.4).
+/// Whether each index in a constant names one of the kind that it must name; see `handle_has_kind`
+/// for what a method handle names (JVMS 4.4).
 pub fn names_kinds(class: &Class, constant: &Constant<Bytes>) -> bool
     ensures { result ≡ names_kinds class.now constant.now }
 {
@@ -62,7 +62,7 @@ pub fn names_kinds(class: &Class, constant: &Constant<Bytes>) -> bool
     }
 }
 
-/// Whether an index names what a method handle of this kind has to name (JVMS 4.4.8).
+/// Whether an index names what a method handle of this kind must name (JVMS 4.4.8).
 fn handle_names(class: &Class, kind: ReferenceKind, reference: u16) -> bool
     ensures { result ≡ names_such (handle_names kind) class.now reference }
 {
@@ -82,7 +82,7 @@ fn handle_names(class: &Class, kind: ReferenceKind, reference: u16) -> bool
     }
 }
 
-/// Whether a method handle has one of the kinds, and names what that kind has to name (JVMS 4.4.8).
+/// Whether a method handle has one of the kinds, and names what that kind must name (JVMS 4.4.8).
 pub fn handle_has_kind(class: &Class, constant: &Constant<Bytes>) -> bool
     ensures { result ≡ handle_has_kind class.now constant.now }
 {
@@ -124,7 +124,7 @@ fn names_method(subject: &Subject, name_and_type: u16) -> bool
     subject.names_method_name(name) && subject.names_method_descriptor(descriptor)
 }
 
-/// Whether a pair's name may be called by a reference: of the names that begin with `<` only
+/// Whether a pair's name may be called by a reference: among the names that begin with `<` only
 /// `<init>`, which returns nothing.
 fn is_callable(class: &Class, name_and_type: u16) -> bool
     ensures { result ≡ is_callable class.now name_and_type }
@@ -135,8 +135,8 @@ fn is_callable(class: &Class, name_and_type: u16) -> bool
         || (name == b"<init>".as_slice() && ends_in_void(class.utf8(descriptor)))
 }
 
-/// Whether a Methodref or InterfaceMethodref has a method's name and descriptor; of names with `<`
-/// a Methodref has only `<init>`, which returns nothing (JVMS 4.4.2).
+/// Whether a Methodref or InterfaceMethodref has a method's name and descriptor; among the names
+/// that begin with `<` a Methodref may have only `<init>`, which returns nothing (JVMS 4.4.2).
 pub fn method_reference_is_formed(subject: &Subject, constant: &Constant<Bytes>) -> bool
     ensures { result ≡ method_reference_is_formed subject.now.class.now constant.now }
 {

@@ -1,4 +1,4 @@
-//! What is asked of one field.
+//! What the rules require of one field.
 ghost use Rattle.std.specs.Prelude.{◌≡◌};
 ghost use Rattle.std.specs.List.{list_all};
 ghost use Rattle.cm_class.specs.declared.kind.Kind.TheVariants as kinds;

@@ -1,4 +1,4 @@
-//! The access flags, and which of them agree (JVMS 4.1, 4.5 and 4.6).
+//! The access flags, and which combinations agree (JVMS 4.1, 4.5 and 4.6).
 ghost use Rattle.std.specs.Prelude.{◌≡◌};
 ghost use Rattle.cm_constraints.specs.Flags.{has, one_if, visibilities, class_flags_agree};
 ghost use Rattle.cm_constraints.specs.Flags.{interface_field_agrees, field_flags_agree};
@@ -14,15 +14,15 @@ const ACC_PROTECTED: u16 = 0x0004;
 pub(crate) const ACC_STATIC: u16 = 0x0008;
 
 const ACC_FINAL: u16 = 0x0010;
-/// Of a class.
+/// For a class.
 const ACC_SUPER: u16 = 0x0020;
-/// Of a method.
+/// For a method.
 const ACC_SYNCHRONIZED: u16 = 0x0020;
-/// Of a field.
+/// For a field.
 const ACC_VOLATILE: u16 = 0x0040;
-/// Of a method.
+/// For a method.
 const ACC_BRIDGE: u16 = 0x0040;
-/// Of a field.
+/// For a field.
 const ACC_TRANSIENT: u16 = 0x0080;
 
 pub(crate) const ACC_NATIVE: u16 = 0x0100;
@@ -61,7 +61,7 @@ const NOT_OF_CONSTRUCTOR: u16 = ACC_STATIC
     | ACC_NATIVE
     | ACC_ABSTRACT;
 
-/// Whether a flag is set, or one of several.
+/// Whether a flag, or one of several flags, is set.
 pub(crate) fn has(flags: u16, some: u16) -> bool
     ensures { result ≡ has flags some }
 {
@@ -74,7 +74,7 @@ fn one_if(holds: bool) -> u8
     if holds { 1 } else { 0 }
 }
 
-/// How many of public, private and protected.
+/// How many of public, private and protected are set.
 fn visibilities(flags: u16) -> u8
     ensures { result ≡ visibilities flags }
 {

@@ -1,4 +1,4 @@
-//! What each static constraint asks of one part of a class (JVMS SE 8, chapter 4).
+//! What each static constraint requires of one part of a class (JVMS SE 8, chapter 4).
 #![tactic(auto)]
 
 mod attributes;

@@ -1,4 +1,4 @@
-//! What is asked of one method.
+//! What the rules require of one method.
 ghost use Rattle.std.specs.Prelude.{◌≡◌};
 ghost use Rattle.cm_constraints.specs.Members.{method_is_named, is_clinit, is_init, units_fit};
 ghost use Rattle.cm_constraints.specs.Members.{flags_fit_method, code_count_is_right};
@@ -43,7 +43,7 @@ pub fn units_fit(subject: &Subject, method: &Member) -> bool
     }
 }
 
-/// Whether a method's flags agree; those of `<clinit>` do in any case (JVMS 4.6).
+/// Whether a method's flags agree; those of `<clinit>` always do (JVMS 4.6).
 pub fn flags_fit_method(class: &Class, method: &Member) -> bool
     ensures { result ≡ flags_fit_method class.now method.now }
 {
@@ -52,8 +52,8 @@ pub fn flags_fit_method(class: &Class, method: &Member) -> bool
             && (!is_init(class, method) || constructor_flags_agree(method.flags)))
 }
 
-/// Whether a native or abstract method has no code, any other exactly one, `<clinit>` at most one
-/// (JVMS 4.7.3).
+/// Whether a native or abstract method has no code, any other has exactly one, and `<clinit>` at
+/// most one (JVMS 4.7.3).
 pub fn code_count_is_right(class: &Class, method: &Member) -> bool
     ensures { result ≡ code_count_is_right class.now method.now }
 {

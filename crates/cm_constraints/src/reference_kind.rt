@@ -19,7 +19,7 @@ impl ReferenceKind {
     ghost use Rattle.std.specs.Prelude.{◌≡◌};
     ghost use Rattle.cm_constraints.specs.Constants.{reference_kind};
 
-    /// The kind that a number tells (JVMS 5.4.3.5, table 5.4.3.5-A).
+    /// The kind that has this number (JVMS 5.4.3.5, table 5.4.3.5-A).
     pub(crate) fn from_number(number: u8) -> Option<ReferenceKind>
         ensures { result ≡ reference_kind number }
     {

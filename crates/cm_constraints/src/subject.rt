@@ -1,10 +1,10 @@
 ghost use Rattle.std.specs.Prelude.{◌≡◌, map, slice_get, IfOk};
 ghost use Rattle.std.specs.List.{list_all};
 ghost use Rattle.cm_class.specs.Names.{constant_in, utf8};
-ghost use Rattle.cm_names.specs.Forms.{is_class_name, is_unqualified_name, is_method_name};
-ghost use Rattle.cm_names.specs.Forms.{is_field_descriptor, is_array_descriptor};
-ghost use Rattle.cm_names.specs.Forms.{is_method_descriptor, method_units};
-ghost use Rattle.cm_names.specs.Judgement.{judgement};
+ghost use Rattle.cm_descriptors.specs.Forms.{is_class_name, is_unqualified_name, is_method_name};
+ghost use Rattle.cm_descriptors.specs.Forms.{is_field_descriptor, is_array_descriptor};
+ghost use Rattle.cm_descriptors.specs.Forms.{is_method_descriptor, method_units};
+ghost use Rattle.cm_descriptors.specs.Judgement.{judgement};
 ghost use Rattle.cm_attributes.specs.Contents.{bootstrap_count as bootstrap_count_of};
 ghost use Rattle.cm_constraints.specs.Constants.{utf8_has_form, in_slot};
 ghost use Rattle.cm_constraints.specs.Subject.{judgement_in};
@@ -12,7 +12,7 @@ ghost use Rattle.cm_constraints.specs.Subject.{judgement_in};
 use crate::utf8s::{judge_nothing, judgements};
 use cm_attributes::bootstrap_count;
 use cm_class::Class;
-use cm_names::{Judgement, begins_with};
+use cm_descriptors::{Judgement, begins_with};
 use std::alloc::{AllocError, Global};
 
 fn judgement_at(table: &[Judgement], place: usize) -> Option<Judgement>
@@ -27,12 +27,12 @@ fn all_have_form(table: &[Judgement]) -> bool
     table.iter().all(|found| found.utf8)
 }
 
-/// A class, with what was found out of each of its Utf8s, so that none is walked twice however many
-/// constants and members name it.
+/// A class, with what was determined for each of its Utf8s, so that none is read twice, however
+/// many constants and members name it.
 #[derive(Drop)]
 pub struct Subject<'a> {
     pub class: &'a Class<'a>,
-    /// For each slot of the pool.
+    /// One entry for each slot of the pool.
     table: Vec<Judgement>,
     bootstrap_count: u16,
     ghost of_class: { table.items ≡ map judgement_in class.now.slots },
@@ -40,7 +40,7 @@ pub struct Subject<'a> {
 }
 
 impl<'a> Subject<'a> {
-    /// The class, looked into. It takes memory for a few bytes a constant.
+    /// Examines the class. It allocates a few bytes per constant.
     pub fn new(alloc: Global, class: &'a Class<'a>) -> Result<Subject<'a>, AllocError>
         ensures { IfOk result (λ subject. subject.class.now ≡ class.entry.now) }
     {
@@ -59,7 +59,7 @@ impl<'a> Subject<'a> {
         self.bootstrap_count
     }
 
-    /// Whether each Utf8 of the pool has its form (JVMS 4.4.7).
+    /// Whether each Utf8 of the pool has the right form (JVMS 4.4.7).
     #[tactic(auto, using(crate::proofs::Tables::utf8s_in_table))]
     pub fn utf8s_have_form(&self) -> bool
         ensures { result ≡ list_all (in_slot utf8_has_form) self.now.class.now.slots }
@@ -67,7 +67,7 @@ impl<'a> Subject<'a> {
         all_have_form(&self.table)
     }
 
-    /// What was found out of the Utf8 at an index; of no bytes, where there is none.
+    /// What was determined for the Utf8 at an index; if there is none, the result for no bytes.
     pub(crate) fn judgement(&self, index: u16) -> Judgement
         ensures { result ≡ judgement (utf8 self.now.class.now index) }
     {
@@ -81,7 +81,7 @@ impl<'a> Subject<'a> {
     }
 
     /// Whether the Utf8 at an index is a class name.
-    #[tactic(auto, unfolding(cm_names::specs::Judgement::judgement))]
+    #[tactic(auto, unfolding(cm_descriptors::specs::Judgement::judgement))]
     pub(crate) fn names_class_name(&self, index: u16) -> bool
         ensures { result ≡ is_class_name (utf8 self.now.class.now index) }
     {
@@ -89,7 +89,7 @@ impl<'a> Subject<'a> {
     }
 
     /// Whether the Utf8 at an index is an unqualified name.
-    #[tactic(auto, unfolding(cm_names::specs::Judgement::judgement))]
+    #[tactic(auto, unfolding(cm_descriptors::specs::Judgement::judgement))]
     pub(crate) fn names_unqualified_name(&self, index: u16) -> bool
         ensures { result ≡ is_unqualified_name (utf8 self.now.class.now index) }
     {
@@ -97,7 +97,7 @@ impl<'a> Subject<'a> {
     }
 
     /// Whether the Utf8 at an index is a method's name.
-    #[tactic(auto, unfolding(cm_names::specs::Judgement::judgement))]
+    #[tactic(auto, unfolding(cm_descriptors::specs::Judgement::judgement))]
     pub(crate) fn names_method_name(&self, index: u16) -> bool
         ensures { result ≡ is_method_name (utf8 self.now.class.now index) }
     {
@@ -105,7 +105,7 @@ impl<'a> Subject<'a> {
     }
 
     /// Whether the Utf8 at an index is a field descriptor.
-    #[tactic(auto, unfolding(cm_names::specs::Judgement::judgement))]
+    #[tactic(auto, unfolding(cm_descriptors::specs::Judgement::judgement))]
     pub(crate) fn names_field_descriptor(&self, index: u16) -> bool
         ensures { result ≡ is_field_descriptor (utf8 self.now.class.now index) }
     {
@@ -113,7 +113,7 @@ impl<'a> Subject<'a> {
     }
 
     /// The units of the method descriptor at an index.
-    #[tactic(auto, unfolding(cm_names::specs::Judgement::judgement))]
+    #[tactic(auto, unfolding(cm_descriptors::specs::Judgement::judgement))]
     pub(crate) fn method_units(&self, index: u16) -> Option<u8>
         ensures { result ≡ method_units (utf8 self.now.class.now index) }
     {

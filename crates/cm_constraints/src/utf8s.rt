@@ -1,13 +1,13 @@
-//! What is found out of the Utf8s of a class.
+//! What is determined for the Utf8s of a class.
 ghost use Rattle.std.specs.Prelude.{◌≡◌, [], map, IfOk};
-ghost use Rattle.cm_names.specs.Judgement.{judgement};
+ghost use Rattle.cm_descriptors.specs.Judgement.{judgement};
 ghost use Rattle.cm_constraints.specs.Subject.{judgement_in};
 
 use cm_class::{Class, Constant, Slot};
-use cm_names::{Judgement, judge};
+use cm_descriptors::{Judgement, judge};
 use std::alloc::{AllocError, Global};
 
-/// What is found out of no bytes.
+/// The result for no bytes.
 pub(crate) fn judge_nothing() -> Judgement
     ensures { result ≡ judgement [] }
 {

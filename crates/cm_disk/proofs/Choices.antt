@@ -1,4 +1,4 @@
--- What a choice takes is an image, and every image is taken by some choice.
+-- A choice always yields an image, and every image is the result of some choice.
 -- For `Medium::image`, `chosen_is_an_image`, `image_has_a_choice`.
 use Rattle.std.proofs.Common.{◌≡◌, ◌<◌, ◌≤◌, ◌+◌, ℕ, zero, suc, Bool, true, false, cond, List}
 use Rattle.std.proofs.Common.{length}
@@ -34,7 +34,7 @@ chosen_is_byte contents unsynced fill i now are =
     (or_byte fill (loose_before unsynced i) (get_or contents i 0) are (byte_of contents i now))
     (byte_of contents i now)
 
--- a position that isn't loose
+-- a position that isn't unsynced keeps its byte
 kept : (b : Bool) (x y : ℕ) → b ≡ false → cond b x y ≡ y
 kept true x y e = absurd (false≢true (sym e))
 kept false x y e = refl
@@ -64,7 +64,7 @@ chosen_image contents fill image unsynced len sound are chosen = record {
       (early_closed unsynced i lt closed);
 }
 
--- the bytes of an image at the loose positions before one
+-- the bytes of an image at the unsynced positions before a position
 abbrev pub one_if : Bool → ℕ → List ℕ
 one_if true x = x ∷ []
 one_if false x = []
@@ -89,7 +89,7 @@ length_picked unsynced image (suc i) =
       length_one (is_loose unsynced i) (get_or image i 0),
     )
 
--- a byte for each loose position
+-- one byte for each unsynced position
 few : (b : Bool) → cond b 1 0 ≤ 1
 few true = omega arith
 few false = omega arith
@@ -118,7 +118,7 @@ one_true : (b : Bool) (x : ℕ) → b ≡ true → one_if b x ≡ x ∷ []
 one_true true x e = refl
 one_true false x e = absurd (false≢true e)
 
--- at a loose position the byte that was picked for it
+-- an unsynced position has the byte that was picked for it
 pub picked_there : (unsynced : Unsynced) (image : List ℕ) (n i d : ℕ) → i < n
     → is_loose unsynced i ≡ true
     → get_or (picked unsynced image n) (loose_before unsynced i) d ≡ get_or image i 0
@@ -140,7 +140,7 @@ picked_there unsynced image (suc n) i d lt e =
         rw (one_true (is_loose unsynced i) (get_or image i 0) e, ← length_picked unsynced image i)
         (get_or-append_seam (picked unsynced image i) (get_or image i 0) [] d)
 
--- at each position
+-- the same at each position
 takes : (b : Bool) (x y z : ℕ) → (b ≡ true → y ≡ x) → (b ≡ false → z ≡ x) → x ≡ cond b y z
 takes true x y z loose closed = sym (loose refl)
 takes false x y z loose closed = sym (closed refl)
@@ -228,7 +228,7 @@ pub loose_same : (unsynced : Unsynced) (at : ℕ) → is_loose unsynced at ≡ f
     → loose_before unsynced (at + 1) ≡ loose_before unsynced at
 loose_same unsynced at e = rw add-one (omega (arith, none_more (is_loose unsynced at) e))
 
--- one byte more, at a loose position or at another
+-- one more byte, at an unsynced position or at another
 module _ (contents : List ℕ) (unsynced : Unsynced) (fill image image' : List ℕ) (at now : ℕ)
     (size : length image ≡ at) (chosen : AllChosen contents unsynced fill image)
     (is_now : now ≡ get_or contents at 0) where

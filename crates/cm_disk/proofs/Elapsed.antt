@@ -1,4 +1,4 @@
--- How time goes on over one call of a disk in memory, which notes a moment before it changes its
+-- How time passes over one call of an in-memory disk, which records a moment before it changes its
 -- bytes.
 -- For `SimDisk::store`, `SimDiskDisk::cut`, `SimDiskDisk::sync` and others.
 use Rattle.std.proofs.Common.{◌≡◌, ◌≤◌, ◌⊎◌, ◌+◌, ◌-◌, ℕ, suc, List, ◌∷◌, length, ◌∙◌, inl, inr}
@@ -10,21 +10,22 @@ use Rattle.std.proofs.lemmas.Bool.{or_cases, or_left, or_right}
 use Rattle.cm_disk.specs.declared.medium.OpenRange.{OpenRange}
 use Rattle.cm_disk.specs.Disk.{is_among, Unsynced, IsImage, IsWithin, widened, shortened}
 use Rattle.cm_disk.specs.Calls.{IsTorn, IsCut, Elapses}
-use Rattle.cm_disk.specs.Moments.{Moment, MayLeave, LeftAtOne, noted_since, unsynced_of, is_in}
+use Rattle.cm_disk.specs.Moments.{Moment, MayLeave, LeftAtOne, noted_since, unsynced_of}
+use Rattle.cm_disk.specs.Moments.{is_in_range}
 use Rattle.cm_disk.specs.Moments.{LeftSince}
 use Rattle.cm_disk.proofs.Images.{within, after_write, after_cut}
 
 abbrev pub unsynced_at : Moment → Unsynced
 unsynced_at m = unsynced_of m.ranges m.least m.greatest
 
--- one moment more
+-- one more moment
 one_more : (t : ℕ) (m : Moment) (moments : List Moment) → t ≤ length moments
     → noted_since t (m ∷ moments) ≡ m ∷ noted_since t moments
 one_more t m moments le =
     let e : length (m ∷ moments) - t ≡ suc (length moments - t) = omega arith in rw e refl
 
--- the moment that is noted allows what could be left before it, and what can be left afterwards
--- could be left during the call
+-- the recorded moment allows what could be left before it, and what can be left afterwards could be
+-- left during the call
 pub elapses : (bytes bytes' : List ℕ) (u u' : Unsynced) (moments moments' : List Moment)
     (m : Moment) (during : List ℕ → Type 0) → moments' ≡ m ∷ moments
     → ((image : List ℕ) → IsImage bytes u image → MayLeave m image)
@@ -85,7 +86,7 @@ elapses_sync bytes bytes' u u' moments moments' m e same at_m stay w =
     (λ image may. rw (← same, ← at_m) may)
     (λ image is. within bytes u u' image w (rw (← stay) is))
 
--- once a range was opened
+-- once a range is opened
 module _ (ranges ranges' : List OpenRange) (least least' greatest greatest' at n : ℕ)
     (opened : ranges' ≡ ranges ++ record { start = at; end = at + n } ∷ []) (stays : least' ≡ least)
     (grows : greatest' ≡ max greatest (at + n)) where
@@ -96,7 +97,7 @@ module _ (ranges ranges' : List OpenRange) (least least' greatest greatest' at n
   after = unsynced_of ranges' least' greatest'
 
   opens : (i : ℕ) → after.is_open i ≡ (before.is_open i || (is_among at n i || false))
-  opens i = ap (list_any (is_in i)) opened ∙ list_any-append (is_in i) ranges
+  opens i = ap (list_any (is_in_range i)) opened ∙ list_any-append (is_in_range i) ranges
       (record { start = at; end = at + n } ∷ [])
 
   pub wider : IsWithin after before

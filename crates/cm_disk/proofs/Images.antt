@@ -1,4 +1,4 @@
--- Which images are images of more.
+-- Which images are images of a state with more unsynced.
 -- For `SimDisk::store`, `SimDiskDisk::cut`, `torn_write_is_an_image` and others.
 use Rattle.std.proofs.Common.{◌≡◌, ◌<◌, ◌≤◌, ◌+◌, ◌-◌, ℕ, Bool, true, false, List, length, get_or}
 use Rattle.std.proofs.Common.{take, drop, refl, sym, ◌∙◌, ap, ⊎_elim, arith}
@@ -27,7 +27,7 @@ within contents most unsynced image w is = record {
       (false_before (unsynced.is_open i) (most.is_open i) (w.positions i) closed);
 }
 
--- outside the range of a write the bytes stay
+-- outside the range of a write the bytes are unchanged
 pub torn_same : (at n : ℕ) (old new : List ℕ) → IsTorn at n old new → (b : Bool) (i : ℕ)
     → (b || is_among at n i) ≡ false → get_or new i 0 ≡ get_or old i 0
 torn_same at n old new torn b i closed =
@@ -78,7 +78,7 @@ pub untouched_torn : (at n : ℕ) (old new : List ℕ) → new ≡ old → IsTor
 untouched_torn at n old new e =
     rw e (record { before = refl; after = refl; no_shorter = omega arith; no_longer = omega arith })
 
--- a write that is done
+-- a write that succeeded
 pub overwritten_torn : (at : ℕ) (bytes old new : List ℕ) → at ≤ length old
     → new ≡ overwritten at bytes old → IsTorn at (length bytes) old new
 overwritten_torn at bytes old new le e =

@@ -2,8 +2,8 @@
 mod Images
 mod Elapsed
 mod Choices
--- Which images are images of more.
+-- Which images are images of a state with more unsynced.
 pub use Images.{false_before, torn_same, after_write, untouched_torn, overwritten_torn, uncut}
--- How time goes on over one call of a disk in memory, which notes a moment before it changes its
+-- How time passes over one call of an in-memory disk, which records a moment before it changes its
 -- bytes.
 pub use Elapsed.{elapses_write, elapses_cut, elapses_sync, wider, narrow}

@@ -1,10 +1,10 @@
--- What the calls of a disk do to its bytes, and how time goes on over a call.
+-- What the calls of a disk do to its bytes, and how time passes during a call.
 -- Source: the project's own model of a disk, docs/CRASH.md.
 use Rattle.std.specs.Prelude.{◌≡◌, ◌<◌, ◌≤◌, ◌⊎◌, ◌+◌, ℕ, max, List, ◌++◌, length, take, drop}
 use Rattle.std.specs.Prelude.{Result, IsErr, IsOk, OnOk, OnErr}
-use Rattle.cm_disk.specs.Disk.{View, IsImage, IsSettled, IsWithin, widened, shortened}
+use Rattle.cm_disk.specs.Disk.{View, IsImage, IsDurable, IsWithin, widened, shortened}
 
--- a call of a disk, with what it is asked for: a read has a place and a number of bytes
+-- a call of a disk, with its arguments: a read has a place and a number of bytes
 pub data DiskCall : Type 0 where
   Len : DiskCall
   Read : ℕ → ℕ → DiskCall
@@ -12,26 +12,27 @@ pub data DiskCall : Type 0 where
   Cut : ℕ → DiskCall
   Sync : DiskCall
 
--- the old bytes with the range from `at` on written over; the end may lie past the old end
+-- the old bytes with the range from `at` on overwritten; the range may extend past the old end
 abbrev pub overwritten : ℕ → List ℕ → List ℕ → List ℕ
 overwritten at bytes old = take at old ++ bytes ++ drop (at + length bytes) old
 
--- A write of n bytes was begun: any bytes are in its range, those outside stay, and the length is
--- any from the old one to the one that the write makes.
+-- A write of n bytes was begun: its range holds any bytes, those outside are unchanged, and the
+-- length is any from the old one to the one that the write makes.
 pub record IsTorn (at n : ℕ) (old new : List ℕ) : Type 0 where
   pub before : take at new ≡ take at old
   pub after : drop (at + n) new ≡ drop (at + n) old
   pub no_shorter : length old ≤ length new
   pub no_longer : length new ≤ max (length old) (at + n)
 
--- A cut to a length was begun: any length from that one to the old one.
+-- A cut to a length was begun: the length is any from that one to the old one.
 pub record IsCut (len : ℕ) (old new : List ℕ) : Type 0 where
   pub no_shorter : len ≤ length new
   pub no_longer : length new ≤ length old
   pub front : new ≡ take (length new) old
 
--- Time goes on over one call. What a crash since t may have left is what it may have left before
--- the call, or what it may leave during the call; and what it may have left stays so.
+-- Time passes over one call. What a crash since t may have left is what it might have left before
+-- the call, or what it may leave during the call; and what it might have left before is still
+-- possible.
 pub record Elapses (before now : ℕ) (past since : ℕ → List ℕ → Type 0)
     (during : List ℕ → Type 0) : Type 0 where
   pub later : before ≤ now
@@ -39,15 +40,15 @@ pub record Elapses (before now : ℕ) (past since : ℕ → List ℕ → Type 0)
       ⊎ during image
   pub keeps : (t : ℕ) (image : List ℕ) → t ≤ before → past t image → since t image
 
--- A fault is told exactly where the device failed in this call.
+-- A fault is reported exactly if the device failed in this call.
 pub record HasCause {T E : Type 0} (before now : ℕ) (result : Result T E) : Type 0 where
   pub later : before ≤ now
   pub fault : IsErr result → before < now
   pub no_fault : IsOk result → now ≡ before
 
--- ---- one call of a disk, whatever kind it is
+-- ---- one call of a disk, whatever kind of disk it is
 
--- time goes on over a call, during which a crash may leave these images
+-- time passes over a call, during which a crash may leave these images
 abbrev pub Passes : {D : Type 0} → View D → D → D → (List ℕ → Type 0) → Type 0
 Passes view old new during =
     Elapses (view.moment old) (view.moment new) (view.left_since old) (view.left_since new) during
@@ -83,8 +84,8 @@ pub record CutsOnce {D T E : Type 0} (view : View D) (len : ℕ) (old new : D)
 -- a sync
 pub record SyncsOnce {D T E : Type 0} (view : View D) (old new : D)
     (result : Result T E) : Type 0 where
-  pub settled : OnOk result (IsSettled (view.contents new) (view.unsynced new))
-  pub not_settled : OnErr result (view.unsynced new ≡ view.unsynced old)
+  pub durable : OnOk result (IsDurable (view.contents new) (view.unsynced new))
+  pub not_durable : OnErr result (view.unsynced new ≡ view.unsynced old)
   pub same : view.contents new ≡ view.contents old
   pub time : Passes view old new (IsImage (view.contents old) (view.unsynced old))
   pub cause : HasCause (view.failures old) (view.failures new) result

@@ -1,4 +1,4 @@
--- What a disk in memory stands for, with the moments that it has had.
+-- The state that an in-memory disk models, with the moments that it has had.
 use Rattle.std.specs.Prelude.{◌≡◌, ◌⊎◌, ◌-◌, ◌&&◌, nat_lt, nat_le, ℕ, zero, suc, Bool, List, []}
 use Rattle.std.specs.Prelude.{◌∷◌, length, take}
 use Rattle.std.specs.List.{list_any}
@@ -7,18 +7,18 @@ use Rattle.std.proofs.Common.{arith}
 use Rattle.cm_disk.specs.declared.medium.OpenRange.{OpenRange}
 use Rattle.cm_disk.specs.Disk.{Unsynced, IsImage}
 
-abbrev pub is_in : ℕ → OpenRange → Bool
-is_in i range = nat_le range.start i && nat_lt i range.end
+abbrev pub is_in_range : ℕ → OpenRange → Bool
+is_in_range i range = nat_le range.start i && nat_lt i range.end
 
--- what isn't surely stored, where these ranges are open
+-- what may not be durable, if these ranges are open
 abbrev pub unsynced_of : List OpenRange → ℕ → ℕ → Unsynced
 unsynced_of ranges least greatest = record {
-  is_open = λ i. list_any (is_in i) ranges;
+  is_open = λ i. list_any (is_in_range i) ranges;
   least = least;
   greatest = greatest;
 }
 
--- a moment of a disk: its bytes, and what was not surely stored
+-- a moment of a disk: its bytes, and what may not have been durable
 pub record Moment : Type 0 where
   pub bytes : List ℕ
   pub ranges : List OpenRange
@@ -34,7 +34,8 @@ abbrev pub LeftAtOne : List Moment → List ℕ → Type 0
 LeftAtOne [] image = ⊥
 LeftAtOne (moment ∷ moments) image = MayLeave moment image ⊎ LeftAtOne moments image
 
--- of moments, the newest first, those since the moment that was noted as number t (from 0)
+-- of moments, listed newest first, those since the moment that was recorded as number t (counted
+-- from 0)
 abbrev pub noted_since : ℕ → List Moment → List Moment
 noted_since t moments = take (length moments - t) moments
 
@@ -48,7 +49,7 @@ none_noted : (moments : List Moment) (k : ℕ) (image : List ℕ) → k ≡ 0
 none_noted moments zero image e left = left
 none_noted moments (suc k) image e left = absurd (omega arith)
 
--- since the last of them there is none
+-- since the last moment there is no other
 pub none_since_now : {P : Type 0} (moments : List Moment) (image : List ℕ) → P
     ⊎ LeftAtOne (noted_since (length moments) moments) image → P
 none_since_now moments image (inl now) = now

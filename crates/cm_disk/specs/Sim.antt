@@ -1,8 +1,8 @@
--- What a disk in memory shows, and when its calls fail.
+-- What an in-memory disk shows, and when its calls fail.
 use Rattle.std.specs.Prelude.{◌≡◌, ◌≤◌, ◌⊎◌, ◌+◌, ◌-◌, ◌^◌, ◌||◌, ℕ, Bool, true, false, List, take}
 use Rattle.std.specs.Prelude.{length, min, Option, Some, None, is_some, not, if◌then◌else◌}
 use Rattle.cm_disk.specs.declared.sim.SimDisk.{SimDisk}
-use Rattle.cm_disk.specs.Disk.{View, Unsynced, IsSettled, IsWithin, widened, shortened}
+use Rattle.cm_disk.specs.Disk.{View, Unsynced, IsDurable, IsWithin, widened, shortened}
 use Rattle.cm_disk.specs.Calls.{overwritten, DiskCall}
 use Rattle.cm_disk.specs.Calls.DiskCall.{Len, Read, Write, Cut, Sync}
 use Rattle.cm_disk.specs.Medium.{medium_unsynced}
@@ -34,15 +34,15 @@ sim_view = record {
   left_since = sim_left_since;
 }
 
--- the calls that it has had, whatever they were answered
+-- how many calls the disk has had, whatever they returned
 abbrev pub sim_calls : SimDisk → ℕ
 sim_calls disk = length disk.calls.moments
 
--- the syncs that have succeeded
+-- how many syncs have succeeded
 abbrev pub sim_syncs : SimDisk → ℕ
 sim_syncs disk = disk.syncs
 
--- where the next call is to fail: how many bytes it stores, if it is a write
+-- whether the next call is to fail; and if so, how many bytes it stores, if it is a write
 abbrev pub sim_armed : SimDisk → Option ℕ
 sim_armed disk = disk.armed
 
@@ -50,9 +50,9 @@ sim_armed disk = disk.armed
 abbrev pub sim_refused : SimDisk → Bool
 sim_refused disk = disk.refused
 
--- a new disk: all is stored, nothing has happened, and no call is to fail
+-- a new disk: everything is durable, nothing has happened, and no call is to fail
 pub record IsFresh (disk : SimDisk) : Type 0 where
-  pub settled : IsSettled (sim_contents disk) (sim_unsynced disk)
+  pub durable : IsDurable (sim_contents disk) (sim_unsynced disk)
   pub armed : sim_armed disk ≡ None
   pub refused : sim_refused disk ≡ false
   pub calls : sim_calls disk ≡ 0
@@ -60,21 +60,21 @@ pub record IsFresh (disk : SimDisk) : Type 0 where
   pub failures : sim_failures disk ≡ 0
   pub moment : sim_moment disk ≡ 0
 
--- what a write stores of its bytes: where it is armed only the first n
+-- what a write stores of its bytes: if the disk is armed, only the first n
 abbrev pub stored_part : Option ℕ → List ℕ → List ℕ
 stored_part None bytes = bytes
 stored_part (Some n) bytes = take n bytes
 
--- A write opens its whole range, and stores what it is to store. Where an allocation fails, it
--- changes no byte.
-pub record Stores (at : ℕ) (bytes : List ℕ) (armed : Option ℕ) (old new : SimDisk) : Type 0 where
+-- A write opens its whole range, and stores what it is to store. If an allocation fails, it changes
+-- no byte.
+pub record SimStores (at : ℕ) (bytes : List ℕ) (armed : Option ℕ) (old new : SimDisk) : Type 0 where
   pub stored : sim_refused new ≡ false
       → sim_contents new ≡ overwritten at (stored_part armed bytes) (sim_contents old)
   pub opened : sim_refused new ≡ false
       → IsWithin (sim_unsynced new) (widened at (length bytes) (sim_unsynced old))
   pub refused : sim_refused new ≡ true → sim_contents new ≡ sim_contents old
 
--- ---- what one call does to a disk, of whatever kind it is
+-- ---- what one call does to a disk, whatever kind of call it is
 
 -- a length, a read, or a sync that failed
 pub record OnlyReads (old new : SimDisk) : Type 0 where
@@ -86,10 +86,10 @@ pub record HasWritten (armed : Option ℕ) (old new : SimDisk) : Type 0 where
   pub at : ℕ
   pub bytes : List ℕ
   pub starts_within : at ≤ length (sim_contents old)
-  pub stores : Stores at bytes armed old new
+  pub stores : SimStores at bytes armed old new
   pub within : IsWithin (widened at (length bytes) (sim_unsynced old)) (sim_unsynced new)
 
--- a cut: one that fails cuts nothing, but a crash may
+-- a cut: if it fails, it cuts nothing, but a crash may
 pub record HasCut (old new : SimDisk) (ok : Bool) : Type 0 where
   pub len : ℕ
   pub contents_are : sim_contents new
@@ -100,14 +100,14 @@ pub record HasCut (old new : SimDisk) (ok : Bool) : Type 0 where
 pub record HasSynced (old new : SimDisk) (ok : Bool) : Type 0 where
   pub succeeded : ok ≡ true
   pub contents_stay : sim_contents new ≡ sim_contents old
-  pub settled : IsSettled (sim_contents new) (sim_unsynced new)
+  pub durable : IsDurable (sim_contents new) (sim_unsynced new)
 
 abbrev pub DoesOne : Option ℕ → SimDisk → SimDisk → Bool → Type 0
 DoesOne armed old new ok =
     OnlyReads old new ⊎ (HasWritten armed old new ⊎ (HasCut old new ok ⊎ HasSynced old new ok))
 
--- Exactly one call leads from old to new. It fails exactly where it was armed or was refused
--- memory, and then counts as a failure. Nothing is armed behind it.
+-- Exactly one call leads from old to new. It fails exactly if the disk was armed or an allocation
+-- failed, and then counts as a failure. Afterwards nothing is armed.
 pub record IsOneCall (armed : Option ℕ) (old new : SimDisk) (ok : Bool) : Type 0 where
   pub once : sim_calls new ≡ sim_calls old + 1
   pub exactly : ok ≡ not (is_some armed || sim_refused new)
@@ -119,7 +119,7 @@ pub record IsOneCall (armed : Option ℕ) (old new : SimDisk) (ok : Bool) : Type
 abbrev pub sim_called : SimDisk → SimDisk → Bool → Type 0
 sim_called old new ok = IsOneCall (sim_armed old) old new ok
 
--- ---- what this call does besides
+-- ---- what a certain call does in addition
 
 -- a length or a read
 pub record IsAsked (old new : SimDisk) : Type 0 where
@@ -127,10 +127,10 @@ pub record IsAsked (old new : SimDisk) : Type 0 where
   pub syncs_stay : sim_syncs new ≡ sim_syncs old
 
 pub record IsWritten (at : ℕ) (bytes : List ℕ) (armed : Option ℕ) (old new : SimDisk) : Type 0 where
-  pub stores : Stores at bytes armed old new
+  pub stores : SimStores at bytes armed old new
   pub syncs_stay : sim_syncs new ≡ sim_syncs old
 
--- one that fails cuts nothing, but a crash may
+-- a cut: if it fails, it cuts nothing, but a crash may
 pub record IsShortened (len : ℕ) (old new : SimDisk) (ok : Bool) : Type 0 where
   pub no_memory : sim_refused new ≡ false
   pub uncut : ok ≡ false → sim_contents new ≡ sim_contents old

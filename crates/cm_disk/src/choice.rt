@@ -1,21 +1,21 @@
-//! What a crash of a disk in memory leaves.
+//! What a crash of an in-memory disk leaves.
 ghost use Rattle.std.specs.Prelude.{◌≡◌, ◌+◌, ◌<◌, IfOk, get_or};
 ghost use Rattle.std.specs.List.{list_any};
 ghost use Rattle.cm_disk.specs.Chosen.{is_loose, IsChosen};
 ghost use Rattle.cm_disk.specs.Medium.{medium_unsynced};
-ghost use Rattle.cm_disk.specs.Moments.{is_in};
+ghost use Rattle.cm_disk.specs.Moments.{is_in_range};
 
 use crate::medium::Medium;
 use std::alloc::{AllocError, Global};
 
-/// What a crash is to leave of the lengths and bytes that it may leave.
+/// What a crash shall leave, of all the lengths and bytes that it may leave.
 #[derive(Drop)]
 pub struct Choice {
-    /// The length in bytes; it is brought between the least and the greatest that there may be.
+    /// The length in bytes; it is clamped to the possible lengths, from the least to the greatest.
     pub len: u64,
-    /// The bytes for the positions that were written since the last sync, or lie at or past the
-    /// least length, in order. Where there are no more, a position keeps its byte, or is 0 where
-    /// there was none.
+    /// The bytes for the positions that were written since the last sync, or are at or past the
+    /// least length, in order. If there are too few, a position keeps its byte, or is 0 if it had
+    /// none.
     pub fill: Vec<u8>,
 }
 
@@ -27,7 +27,7 @@ fn byte_or(bytes: &[u8], at: usize, other: u8) -> u8
 
 impl Medium {
     fn is_open(&self, at: u64) -> bool
-        ensures { result ≡ list_any (is_in at) self.now.ranges.items }
+        ensures { result ≡ list_any (is_in_range at) self.now.ranges.items }
     {
         self.ranges
             .iter()

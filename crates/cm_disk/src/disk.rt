@@ -12,20 +12,21 @@ use thiserror::Error;
 #[error("the device failed")]
 pub struct DeviceFault;
 
-/// A disk: one row of bytes that is read, written, cut and synced.
+/// A disk: a sequence of bytes that is read, written, cut and synced.
 ///
-/// Until a sync succeeds, a crash may leave any bytes where something was written, and any of the
-/// lengths that the disk had since. A write is one range; places and lengths count bytes, and none
-/// passes 2^40.
+/// Until a sync succeeds, a crash may leave any bytes at positions that were written, and any of
+/// the lengths that the disk had since the last one. A write covers one range. Places and lengths
+/// count bytes, and none exceeds 2^40.
 pub trait Disk {
-    /// What it shows of its bytes, its failures and its moments.
+    /// What the disk shows: its bytes, its failures and its moments.
     ghost view: { View Self };
 
-    /// What a kind of disk says of each of its calls besides: one call leads from the one disk to
-    /// the other, and is answered `Ok` (true) or not.
+    /// What a kind of disk says about each of its calls in addition: one call leads from the first
+    /// disk to the second, and returns `Ok` (true) or not.
     ghost called: { Self → Self → Bool → Type 0 };
 
-    /// What it says besides of this call, as of a write of these bytes to that place.
+    /// What it says in addition about a certain call, such as a write of given bytes to a given
+    /// place.
     ghost made: { DiskCall → Self → Self → Bool → Type 0 };
 
     /// The number of bytes.
@@ -35,8 +36,8 @@ pub trait Disk {
         ensures called { called self.old self.new (is_ok result) }
         ensures made { made Len self.old self.new (is_ok result) };
 
-    /// Reads as many bytes as `out` takes, from `at` on. After an `Err` there are any bytes in
-    /// `out`.
+    /// Reads as many bytes as `out` takes, from `at` on. After an `Err` the bytes in `out` are
+    /// unspecified.
     fn read(&mut self, at: u64, out: &mut [u8]) -> Result<(), DeviceFault>
         requires { at + length out.old ≤ length (view.contents self.old) }
         ensures bytes { OnOk result
@@ -45,8 +46,8 @@ pub trait Disk {
         ensures called { called self.old self.new (is_ok result) }
         ensures made { made (Read at (length out.old)) self.old self.new (is_ok result) };
 
-    /// Writes over what is there, and past the end. After an `Err` there are any bytes in the
-    /// range, and any length from the old one to the one that the write makes.
+    /// Overwrites what is there, and may extend past the end. After an `Err` the range may hold any
+    /// bytes, and the length is any from the old one to the one that the write makes.
     fn write_at(&mut self, at: u64, bytes: &[u8]) -> Result<(), DeviceFault>
         requires starts_within { at ≤ length (view.contents self.old) }
         requires within_limit { at + length bytes.now ≤ 2 ^ 40 }
@@ -61,19 +62,19 @@ pub trait Disk {
         ensures called { called self.old self.new (is_ok result) }
         ensures made { made (Cut len) self.old self.new (is_ok result) };
 
-    /// After it, a crash leaves what a read gives. An `Err` changes nothing.
+    /// After a successful sync, a crash leaves what a read returns. An `Err` changes nothing.
     fn sync(&mut self) -> Result<(), DeviceFault>
         ensures syncs { SyncsOnce view self.old self.new result }
         ensures called { called self.old self.new (is_ok result) }
         ensures made { made Sync self.old self.new (is_ok result) };
 
-    /// The lengths fit together, and no disk passes the limit.
+    /// The lengths are consistent, and no disk exceeds the limit.
     ghost sound: { (disk : Self) → IsSound (view.contents disk) (view.unsynced disk) };
 
-    /// This moment is one of those since an earlier one.
+    /// This moment counts as one since an earlier one.
     ghost counts_now: { (disk : Self) (t : ℕ) (image : List ℕ) → t ≤ view.moment disk
         → IsImage (view.contents disk) (view.unsynced disk) image → view.left_since disk t image };
 
-    /// Since this moment there is no other.
+    /// Since this moment there is no other moment.
     ghost only_now: { OnlyNow view };
 }

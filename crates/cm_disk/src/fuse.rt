@@ -1,7 +1,7 @@
-//! A disk in memory that fails from some call on.
+//! An in-memory disk that fails from some call on.
 ghost use Rattle.std.specs.Prelude.{◌≡◌, ◌-◌};
 ghost use Rattle.std.proofs.Common.{inl};
-ghost use Rattle.cm_disk.specs.Fuse.{fuse_view, behind, fuse_contents, fuse_unsynced};
+ghost use Rattle.cm_disk.specs.Fuse.{fuse_view, fused_disk, fuse_contents, fuse_unsynced};
 ghost use Rattle.cm_disk.specs.Fuse.{fuse_failures};
 ghost use Rattle.cm_disk.specs.Fuse.{fuse_moment, fuse_left_since, fuse_pass, fuse_stores};
 ghost use Rattle.cm_disk.specs.Fuse.{fuse_armed, fuse_made, IsFuseCall};
@@ -10,7 +10,7 @@ ghost use Rattle.cm_disk.specs.Moments.{none_since_now};
 use crate::sim::SimDisk;
 use crate::{DeviceFault, Disk};
 
-/// A disk in memory behind a fuse: so many calls are let through, then every call fails. A write
+/// An in-memory disk with a fuse: it lets a number of calls through, then every call fails. A write
 /// that fails stores its first bytes.
 #[derive(Drop)]
 pub struct FuseDisk {
@@ -20,27 +20,28 @@ pub struct FuseDisk {
 }
 
 impl FuseDisk {
-    /// Lets `pass` calls through to the disk, and fails all that come after them, each of which
-    /// counts as a failure. A failing write stores its first `stores` bytes. Whether the disk was
-    /// armed is forgotten at the first call.
+    /// Lets `pass` calls through to the disk, and fails all calls after them, each of which counts
+    /// as a failure. A failing write stores its first `stores` bytes. The first call forgets
+    /// whether the disk was armed.
     pub fn new(disk: SimDisk, pass: u64, stores: usize) -> FuseDisk
-        ensures disk { behind result ≡ disk }
+        ensures disk { fused_disk result ≡ disk }
         ensures pass { fuse_pass result ≡ pass }
         ensures stores { fuse_stores result ≡ stores }
     {
         FuseDisk { disk, pass, stores }
     }
 
-    /// The disk, with all that happened to it.
+    /// The disk, with everything that happened to it.
     pub fn into_inner(self) -> SimDisk
-        ensures { result ≡ behind self }
+        ensures { result ≡ fused_disk self }
     {
         self.disk
     }
 
-    /// One call more: it is let through, or the disk is armed for it.
+    /// Accounts for one more call: it is let through, or the disk is armed for it.
     fn burn(&mut self)
-        ensures disk { behind self.new ≡ record (behind self.old) { armed = fuse_armed self.old } }
+        ensures disk { fused_disk self.new
+            ≡ record (fused_disk self.old) { armed = fuse_armed self.old } }
         ensures pass { fuse_pass self.new ≡ fuse_pass self.old - 1 }
         ensures stores { fuse_stores self.new ≡ fuse_stores self.old }
     {

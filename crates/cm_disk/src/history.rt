@@ -1,4 +1,4 @@
-//! The moments that a disk in memory has had, which only clauses read: they take no memory.
+//! The moments that an in-memory disk has had. Only clauses read them: they take no memory.
 ghost use Rattle.std.specs.Prelude.{◌≡◌, List, [], ◌∷◌};
 ghost use Rattle.std.specs.Borrow.{ftrue};
 ghost use Rattle.cm_disk.specs.Moments.{Moment};
@@ -10,7 +10,7 @@ use std::marker::{Model, PhantomData};
 #[derive(Drop)]
 pub struct History {
     marker: PhantomData<u8>,
-    /// The newest first.
+    /// The moments, the newest first.
     pub ghost moments: { List Moment },
 }
 
@@ -30,7 +30,7 @@ impl History {
         }
     }
 
-    /// The moment that the medium is at has come.
+    /// Records the moment that the medium is at.
     pub(crate) fn note(&mut self, _medium: &Medium)
         ensures { self.new.moments ≡ moment_of _medium.now ∷ self.old.moments }
     {}

@@ -1,4 +1,4 @@
-//! The model of a disk: what it holds, what of that is stored, and what a crash may leave.
+//! The model of a disk: what it holds, what of that is durable, and what a crash may leave.
 #![tactic(auto)]
 
 mod choice;
@@ -13,7 +13,7 @@ pub use choice::Choice;
 pub use disk::{DeviceFault, Disk};
 pub use fuse::FuseDisk;
 pub use laws::{
-    chosen_is_an_image, image_has_a_choice, settled_has_one_image, torn_write_is_an_image,
+    chosen_is_an_image, durable_has_one_image, image_has_a_choice, torn_write_is_an_image,
     write_is_read_back, write_is_torn_in_its_range,
 };
 pub use sim::SimDisk;

@@ -1,5 +1,4 @@
-//! The bytes of a disk in memory, with the ranges that are open and the lengths that a crash may
-//! leave.
+//! The bytes of an in-memory disk, with the unsynced ranges and the lengths that a crash may leave.
 ghost use Rattle.std.specs.Prelude.{◌≡◌, ◌≤◌, ◌+◌, ◌^◌, [], ◌∷◌, ◌++◌, length, take, min, max};
 ghost use Rattle.std.specs.Prelude.{OnOk, OnErr};
 ghost use Rattle.cm_disk.specs.Disk.{IsSound, IsBytes};
@@ -27,7 +26,7 @@ pub struct Medium {
     ghost sound: { IsSound bytes.items (unsynced_of ranges.items least greatest) },
 }
 
-/// Writes over what is there, and past the end.
+/// Overwrites what is there, and may extend past the end.
 fn overwrite(bytes: &mut Vec<u8>, at: usize, written: &[u8]) -> Result<(), AllocError>
     requires { at ≤ length bytes.old.items }
     ensures ok { OnOk result (bytes.new.items ≡ overwritten at written.now bytes.old.items) }
@@ -60,7 +59,7 @@ impl Medium {
         }
     }
 
-    /// All of it is stored.
+    /// A medium of these bytes, all of them durable.
     pub(crate) fn of_stored_bytes(alloc: Global, bytes: Vec<u8>) -> Medium
         requires { length bytes.items ≤ 2 ^ 40 }
         ensures bytes { result.bytes ≡ bytes }
@@ -77,7 +76,8 @@ impl Medium {
         }
     }
 
-    /// Opens the range that a write of `count` bytes has, and the length that it makes.
+    /// Adds the range of a write of `count` bytes to the unsynced ones, and allows the length that
+    /// it makes.
     pub(crate) fn begin_write(&mut self, at: u64, count: u64) -> Result<(), AllocError>
         requires { at + count ≤ 2 ^ 40 }
         ensures bytes { self.new.bytes.items ≡ self.old.bytes.items }
@@ -95,7 +95,7 @@ impl Medium {
         Ok(())
     }
 
-    /// Writes into a range that was opened.
+    /// Writes into a range that was opened before.
     pub(crate) fn write(&mut self, at: u64, written: &[u8]) -> Result<(), AllocError>
         requires starts_within { at ≤ length self.old.bytes.items }
         requires was_opened { at + length written.now ≤ self.old.greatest }
@@ -109,7 +109,7 @@ impl Medium {
         overwrite(&mut self.bytes, at as usize, written)
     }
 
-    /// The length may be that one from now on.
+    /// Allows this length from now on.
     pub(crate) fn begin_cut(&mut self, len: u64)
         requires { len ≤ length self.old.bytes.items }
         ensures bytes { self.new.bytes.items ≡ self.old.bytes.items }
@@ -130,8 +130,8 @@ impl Medium {
         self.bytes.truncate(len as usize);
     }
 
-    /// All is stored.
-    pub(crate) fn settle(&mut self)
+    /// Makes everything durable.
+    pub(crate) fn make_durable(&mut self)
         ensures bytes { self.new.bytes.items ≡ self.old.bytes.items }
         ensures ranges { self.new.ranges.items ≡ [] }
         ensures least { self.new.least ≡ length self.old.bytes.items }

@@ -1,10 +1,10 @@
-//! A disk in memory.
+//! An in-memory disk.
 ghost use Rattle.std.specs.Prelude.{◌≡◌, ◌≤◌, ◌+◌, ◌^◌, [], length, true, false, Some, None};
 ghost use Rattle.std.specs.Prelude.{IfOk, OnOk, OnErr};
 ghost use Rattle.std.proofs.Common.{inl};
 ghost use Rattle.cm_disk.specs.Calls.{Elapses, IsTorn, overwritten};
 ghost use Rattle.cm_disk.specs.Chosen.{IsChosen};
-ghost use Rattle.cm_disk.specs.Disk.{IsImage, IsSettled, IsWithin, widened};
+ghost use Rattle.cm_disk.specs.Disk.{IsImage, IsDurable, IsWithin, widened};
 ghost use Rattle.cm_disk.specs.Moments.{none_since_now};
 ghost use Rattle.cm_disk.specs.Sim.{sim_view, sim_contents, sim_unsynced, sim_failures, sim_moment};
 ghost use Rattle.cm_disk.specs.Sim.{sim_left_since, sim_calls, sim_syncs, sim_armed, sim_refused};
@@ -16,8 +16,8 @@ use crate::medium::Medium;
 use crate::{DeviceFault, Disk};
 use std::alloc::{AllocError, Global};
 
-/// A disk in memory, empty at first. A call fails where the disk was armed for it, and a write also
-/// where memory that it must grow by is refused; no other call fails.
+/// An in-memory disk, empty at first. A call fails if the disk was armed for it; a write also fails
+/// if memory for its growth can't be allocated. No other call fails.
 #[derive(Drop)]
 pub struct SimDisk {
     medium: Medium,
@@ -26,13 +26,13 @@ pub struct SimDisk {
     armed: Option<usize>,
     refused: bool,
     history: History,
-    /// What stood at each failure.
+    /// The state at each failure.
     failures: History,
-    /// What stood before each call.
+    /// The state before each call.
     calls: History,
 }
 
-/// What a write stores of its bytes.
+/// The part of its bytes that a write stores.
 fn part_to_store(bytes: &[u8], armed: Option<usize>) -> &[u8]
     ensures { result.now ≡ stored_part armed bytes.now }
 {
@@ -43,10 +43,10 @@ fn part_to_store(bytes: &[u8], armed: Option<usize>) -> &[u8]
 }
 
 impl SimDisk {
-    /// A disk of no bytes, all of it stored.
+    /// A disk of no bytes, all of it durable.
     pub fn new(alloc: Global) -> SimDisk
         ensures contents { sim_contents result ≡ [] }
-        ensures settled { IsSettled [] (sim_unsynced result) }
+        ensures durable { IsDurable [] (sim_unsynced result) }
         ensures fresh { IsFresh result }
     {
         SimDisk::of_medium(Medium::new(alloc))
@@ -72,37 +72,37 @@ impl SimDisk {
         }
     }
 
-    /// How many syncs have succeeded (2^64 - 1 stands for more).
+    /// How many syncs have succeeded (2^64 - 1 means that many or more).
     pub fn syncs(&self) -> u64
         ensures { result ≡ sim_syncs self.now }
     {
         self.syncs
     }
 
-    /// Whether the last call failed because an allocation did.
+    /// Whether the last call failed because an allocation failed.
     pub fn was_refused(&self) -> bool
         ensures { result ≡ sim_refused self.now }
     {
         self.refused
     }
 
-    /// The next call is to fail, and if it is a write, to store its first `stores` bytes. What was
-    /// armed before and hasn't come yet is forgotten.
+    /// Makes the next call fail; if it is a write, it stores its first `stores` bytes. An earlier
+    /// arming that hasn't taken effect is forgotten.
     pub fn arm(&mut self, stores: usize)
         ensures { self.new ≡ record self.old { armed = Some stores } }
     {
         self.armed = Some(stores);
     }
 
-    /// The next call is not to fail.
+    /// Makes the next call succeed.
     pub fn disarm(&mut self)
         ensures { self.new ≡ record self.old { armed = None } }
     {
         self.armed = None;
     }
 
-    /// The disk that a crash leaves: it holds the chosen image, all of it stored. Nothing has
-    /// happened to it yet. At an `Err`, where an allocation failed, there is no disk any more.
+    /// The disk that a crash leaves: it holds the chosen image, all of it durable. Nothing has
+    /// happened to it yet. On an `Err`, when an allocation failed, the disk is lost.
     pub fn crash(self, alloc: Global, choice: &Choice) -> Result<SimDisk, AllocError>
         ensures chosen { IfOk result (λ disk. IsChosen (sim_contents self) (sim_unsynced self)
             choice.now.len choice.now.fill.items (sim_contents disk)) }
@@ -114,7 +114,7 @@ impl SimDisk {
         Ok(SimDisk::of_medium(Medium::of_stored_bytes(alloc, bytes)))
     }
 
-    /// A call begins: it is counted, and what was armed is for it alone.
+    /// Begins a call: counts it, and takes what was armed, which is for this call alone.
     fn begin_call(&mut self) -> Option<usize>
         ensures armed { result ≡ sim_armed self.old }
         ensures once { sim_calls self.new ≡ sim_calls self.old + 1 }
@@ -129,7 +129,8 @@ impl SimDisk {
         self.armed.take()
     }
 
-    /// Opens the range of a write of `count` bytes, and stores those of them that are given.
+    /// Adds the range of a write of `count` bytes to the unsynced ones, and stores those of the
+    /// bytes that are given.
     fn store(&mut self, at: u64, count: u64, stored: &[u8]) -> Result<(), AllocError>
         requires starts_within { at ≤ length (sim_contents self.old) }
         requires within_limit { at + count ≤ 2 ^ 40 }
@@ -221,7 +222,7 @@ impl Disk for SimDisk {
         }
         self.syncs = self.syncs.saturating_add(1);
         self.history.note(&self.medium);
-        self.medium.settle();
+        self.medium.make_durable();
         Ok(())
     }
 }

@@ -14,7 +14,7 @@ fn whole_and_part(disk: &mut SimDisk) -> Result<([u8; 8], [u8; 3]), DeviceFault>
     Ok((whole, part))
 }
 
-/// Writes six letters, four over their end, and one in the middle.
+/// Writes six letters, four that overlap their end, and one in the middle.
 fn write_over_and_past(disk: &mut SimDisk) -> Result<(), DeviceFault> {
     fill(disk)?;
     disk.write_at(4, b"WXYZ")?;

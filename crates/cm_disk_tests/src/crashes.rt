@@ -10,7 +10,7 @@ struct Case {
     left: &'static [u8],
 }
 
-/// Four letters were stored, four more written over the end and past it.
+/// Four letters were durable; four more were written over the end and past it.
 const AFTER_A_WRITE: [Case; 5] = [
     Case {
         len: 0,
@@ -39,7 +39,7 @@ const AFTER_A_WRITE: [Case; 5] = [
     },
 ];
 
-/// Six letters were stored, and then cut to three.
+/// Six letters were durable, and then were cut to three.
 const AFTER_A_CUT: [Case; 3] = [
     Case {
         len: 0,

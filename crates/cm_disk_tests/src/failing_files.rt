@@ -9,7 +9,7 @@ fn kind_of_cause(disk: &FileDisk) -> Option<io::ErrorKind> {
     disk.cause().map(|error| error.kind())
 }
 
-/// Every call fails.
+/// Whether every call fails.
 fn is_lost(disk: &mut FileDisk) -> bool {
     disk.len().is_err()
         && disk.write_at(0, b"").is_err()
@@ -18,7 +18,7 @@ fn is_lost(disk: &mut FileDisk) -> bool {
         && disk.read(0, &mut []).is_err()
 }
 
-/// Whether it holds six letters.
+/// Whether the disk holds six letters.
 fn holds_letters(disk: &mut FileDisk) -> Result<bool, DeviceFault> {
     if disk.len()? != 6 {
         return Ok(false);
@@ -29,7 +29,7 @@ fn holds_letters(disk: &mut FileDisk) -> Result<bool, DeviceFault> {
     Ok(bytes == *b"abcdef")
 }
 
-/// Whether a change fails, and from then on every call, for the same cause.
+/// Whether a change fails, and every call after it, for the same cause.
 fn fails_for_good(disk: &mut FileDisk, cuts: bool) -> bool {
     let is_changed = if cuts {
         disk.cut(0).is_ok()

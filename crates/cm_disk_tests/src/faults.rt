@@ -2,7 +2,7 @@ use crate::held::{fill, hold_record};
 use cm_disk::{Disk, FuseDisk, SimDisk};
 use std::test::Fail;
 
-/// Whether the third call of it fails, and each one that is armed at once.
+/// Whether exactly the calls fail for which the disk is armed.
 fn fails_where_armed(disk: &mut SimDisk) -> bool {
     let is_filled = fill(disk).is_ok();
     disk.arm(2);
@@ -27,7 +27,7 @@ fn an_armed_call_fails_and_the_next_does_not(rt: HostRuntime) -> Result<(), Fail
     Ok(())
 }
 
-/// Whether a write, a sync and a look at the length go through, and nothing after them.
+/// Whether a write, a sync and a query of the length are let through, and nothing after them.
 fn lets_three_through(disk: &mut FuseDisk) -> bool {
     let are_through = fill(disk).is_ok() && disk.sync().is_ok() && disk.len() == Ok(6);
     are_through && fill(disk).is_err() && disk.sync().is_err()

@@ -1,4 +1,4 @@
-//! What reaches the file, and what is read of it.
+//! What reaches the file, and what is read from it.
 ghost use Rattle.std.specs.Prelude.{◌≤◌, ◌<◌, ◌+◌, ◌^◌, ℕ, length};
 
 use cm_disk::{DeviceFault, Disk};
@@ -12,7 +12,7 @@ fn open_up_to(rt: &HostRuntime, path: &str, reach: u64) -> Result<FileDisk, Open
     FileDisk::of_file(opened, reach)
 }
 
-/// Stores eight bytes by two writes, and cuts the last one off.
+/// Stores eight bytes with two writes, and cuts off the last one.
 fn store_seven(disk: &mut FileDisk) -> Result<(), DeviceFault> {
     if disk.len()? != 0 {
         return Err(DeviceFault);
@@ -24,7 +24,7 @@ fn store_seven(disk: &mut FileDisk) -> Result<(), DeviceFault> {
     disk.sync()
 }
 
-/// The four bytes in the middle and the last one, which is read after a sync.
+/// The four bytes in the middle, and the last one, which is read after a sync.
 fn middle_and_end(disk: &mut FileDisk) -> Result<([u8; 4], [u8; 1]), DeviceFault> {
     if disk.len()? != 7 {
         return Err(DeviceFault);
@@ -37,7 +37,7 @@ fn middle_and_end(disk: &mut FileDisk) -> Result<([u8; 4], [u8; 1]), DeviceFault
     Ok((middle, end))
 }
 
-/// Whether it holds the seven bytes, and nothing of it failed.
+/// Whether the disk holds the seven bytes, and no call failed.
 fn holds_seven(disk: &mut FileDisk) -> Result<bool, DeviceFault> {
     let parts = middle_and_end(disk)?;
     Ok(parts == (*b"cdWX", *b"Y") && disk.cause().is_none())
@@ -59,14 +59,14 @@ fn stored_bytes_are_read_when_it_is_opened_again(rt: HostRuntime) -> Result<(), 
     Ok(())
 }
 
-/// Each byte another than its neighbours, with no period of a power of two.
+/// Makes each byte differ from its neighbours, with no period of a power of two.
 fn count_up(bytes: &mut [u8]) {
     for (i, byte) in bytes.iter_mut().enumerate() {
         *byte = (i % 251) as u8;
     }
 }
 
-/// Writes these bytes over the last three of ten, and gives the length.
+/// Writes these bytes over the last three of ten, and returns the length.
 fn write_behind_seven(disk: &mut FileDisk, bytes: &[u8]) -> Result<u64, DeviceFault>
     requires within_limit { 7 + length bytes.now ≤ 2 ^ 40 }
 {
@@ -94,7 +94,7 @@ fn a_write_of_many_pieces_is_written_whole(rt: HostRuntime) -> Result<(), Fail> 
     Ok(())
 }
 
-/// Whether a write gives up the bytes that were read, and leaves the length and no failure.
+/// Whether a write drops the bytes that were read, but keeps the length and causes no failure.
 fn gives_up_bytes_alone(disk: &mut FileDisk) -> Result<bool, DeviceFault> {
     if disk.len()? != 6 {
         return Ok(false);
@@ -112,7 +112,7 @@ fn a_write_gives_the_bytes_up_and_leaves_the_length(rt: HostRuntime) -> Result<(
     fs::write(&rt, path, b"abcdef".as_slice())?;
     let mut disk = open_up_to(&rt, path, u64::MAX)?;
     assert!(rt; gives_up_bytes_alone(&mut disk)?);
-    // It is no failure of the file: what follows still reaches it.
+    // This is no failure of the file: later calls still reach it.
     assert_eq!(rt; disk.len(), Ok(6));
     disk.write_at(6, b"g")?;
     disk.sync()?;
@@ -121,7 +121,7 @@ fn a_write_gives_the_bytes_up_and_leaves_the_length(rt: HostRuntime) -> Result<(
     Ok(())
 }
 
-/// Whether the last of this many bytes is read, and none after them.
+/// Whether the last of the held bytes is read, and none after them.
 fn is_read_up_to(disk: &mut FileDisk, bytes: &[u8], held: u64) -> Result<bool, DeviceFault>
     requires within { length bytes.now < 2 ^ 40 }
 {
@@ -134,8 +134,8 @@ fn is_read_up_to(disk: &mut FileDisk, bytes: &[u8], held: u64) -> Result<bool, D
     Ok(is_held && disk.read(held, &mut byte).is_err())
 }
 
-/// Whether the length is known, and one byte more is written after it; then it is cut off again.
-/// What isn't read is no failure of the file.
+/// Whether the length is known, and one more byte can be written at the end, which is then cut off.
+/// A read that fails is no failure of the file.
 fn grows_by_one(disk: &mut FileDisk) -> Result<bool, DeviceFault> {
     let len = disk.len()?;
     if len > 1 << 30 {

@@ -8,7 +8,7 @@ use std::test::Fail;
 
 pub const LETTERS: [u8; 6] = *b"abcdef";
 
-/// Writes six letters to the start. Of the disk only the trait is known.
+/// Writes six letters to the start. Only the trait of the disk is known.
 pub fn fill<D: Disk>(disk: &mut D) -> Result<(), DeviceFault>
     ensures { OnOk result (D.view.contents disk.new ≡ overwritten 0 LETTERS
         (D.view.contents disk.old)) }

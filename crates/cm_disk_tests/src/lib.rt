@@ -1,4 +1,4 @@
-//! Tests of disks in memory and over files, and of a small committer over any disk.
+//! Tests of disks in memory and over files, and of a small committer for any disk.
 #![tactic(auto)]
 
 #[cfg(test)]

@@ -1,4 +1,4 @@
-//! Writes that are longer than any that a cache makes: a root has 4 MiB at most.
+//! Writes that are longer than any that a cache makes: a root has at most 4 MiB.
 
 use crate::held::hold_record;
 use cm_disk::{Choice, DeviceFault, Disk, SimDisk};
@@ -24,7 +24,7 @@ fn write(disk: &mut SimDisk, bytes: &[u8]) -> Result<(), DeviceFault> {
     disk.write_at(0, bytes)
 }
 
-/// Whether a write is read back, also once it is stored and the machine stopped.
+/// Whether a write is read back, also once it is durable and the machine was stopped.
 fn is_read_back(alloc: Global, bytes: &[u8]) -> Result<bool, Fail> {
     let mut disk = SimDisk::new(alloc);
     write(&mut disk, bytes)?;

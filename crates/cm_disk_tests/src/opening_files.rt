@@ -8,7 +8,7 @@ use std::os::unix::fs::symlink;
 use std::test::*;
 use std::{format, fs};
 
-/// What isn't opened: `None` for what is no regular file, else the kind of the system's error.
+/// Why a file isn't opened: `None` if it is no regular file, else the kind of the system's error.
 fn refuse_open(rt: &HostRuntime, path: &str) -> Result<Option<ErrorKind>, Fail> {
     match OpenedFile::open(rt, rt.alloc(), path) {
         Ok(_) => Err(Fail::new("it is opened")),
@@ -59,7 +59,7 @@ fn a_file_past_the_limit_is_not_read(rt: HostRuntime) -> Result<(), Fail> {
     Ok(())
 }
 
-/// Whether no file is made there, since something has the name.
+/// Whether no file is created there, since something has the name.
 fn is_taken(rt: &HostRuntime, path: &str) -> bool {
     matches!(
         FileDisk::create(rt, rt.alloc(), path),

@@ -27,8 +27,8 @@ pub fn read_both<D: Disk>(
     disk.read(then, second)
 }
 
-/// How many of the slots of 64 bytes begin with an open gate. The clause is on the run of reads
-/// alone.
+/// How many of the slots of 64 bytes begin with an open gate. The clause is only about the run of
+/// reads.
 #[tactic(auto, using(cm_guards::proofs::reading))]
 pub fn count_open<D: Disk>(disk: &mut D, slots: u32) -> Result<u32, DeviceFault>
     requires { 64 * slots ≤ length (D.view.contents disk.old) }

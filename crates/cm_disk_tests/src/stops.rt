@@ -1,6 +1,6 @@
-//! Stops at each device call, on disks in memory.
+//! Stops at each device call, with in-memory disks.
 ghost use Rattle.std.specs.Prelude.{◌≡◌, List, ℕ, [], IfOk, OnOk, length, false};
-ghost use Rattle.cm_disk.specs.Disk.{IsSettled};
+ghost use Rattle.cm_disk.specs.Disk.{IsDurable};
 ghost use Rattle.cm_disk.specs.Sim.{sim_contents, sim_unsynced};
 
 use crate::reading::{count_open, read_both};
@@ -11,7 +11,7 @@ use cm_guards::Claim;
 use std::alloc::Global;
 use std::test::Fail;
 
-/// Holds of all contents, and guards nothing.
+/// Holds for all contents, and guards nothing.
 struct Anything;
 
 impl Claim for Anything {
@@ -26,23 +26,23 @@ impl Guarded for Anything {
 fn store_zeros(disk: &mut SimDisk) -> Result<(), DeviceFault>
     requires empty { sim_contents disk.old ≡ [] }
     ensures size { OnOk result (length (sim_contents disk.new) ≡ 4) }
-    ensures settled { OnOk result (IsSettled (sim_contents disk.new) (sim_unsynced disk.new)) }
+    ensures durable { OnOk result (IsDurable (sim_contents disk.new) (sim_unsynced disk.new)) }
 {
     disk.write_at(0, &[0; 4])?;
     disk.sync()
 }
 
-/// Four bytes of 0, stored.
+/// Four bytes of 0, all durable.
 fn zeros(alloc: Global) -> Result<SimDisk, Fail>
     ensures size { IfOk result (λ disk. length (sim_contents disk) ≡ 4) }
-    ensures settled { IfOk result (λ disk. IsSettled (sim_contents disk) (sim_unsynced disk)) }
+    ensures durable { IfOk result (λ disk. IsDurable (sim_contents disk) (sim_unsynced disk)) }
 {
     let mut disk = SimDisk::new(alloc);
     store_zeros(&mut disk)?;
     Ok(disk)
 }
 
-/// Lets this many calls through, and says whether the gate was opened, with the disk.
+/// Lets this many calls through; returns whether the gate was opened, and the disk.
 fn stop_after(alloc: Global, pass: u64) -> Result<(bool, SimDisk), Fail> {
     let mut fuse = FuseDisk::new(zeros(alloc)?, pass, 2);
     let done = turn::<FuseDisk, Anything, Anything>(&mut fuse, 1, b"xyz", 0).is_ok();
@@ -63,7 +63,7 @@ fn read_left(alloc: Global, disk: SimDisk, fill: &[u8]) -> Result<[u8; 4], Fail>
     Ok(bytes)
 }
 
-/// What a crash leaves where this many calls were let through, and the fill is as it is.
+/// What a crash leaves after this many calls were let through, for a given fill.
 const LEFT: [(u64, &[u8], &[u8; 4]); 8] = [
     (0, b"", b"\0xy\0"),
     (0, b"123", b"\x00123"),
@@ -87,7 +87,7 @@ fn the_gate_opens_behind_its_record(rt: HostRuntime) -> Result<(), Fail> {
     Ok(())
 }
 
-/// Of a disk that was cut to three bytes: two in the middle, and the first.
+/// Of a disk that was cut to three bytes: the two in the middle, and the first.
 fn read_three(disk: &mut SimDisk) -> Result<([u8; 2], [u8; 1]), DeviceFault> {
     let mut first = [1; 2];
     let mut second = [1; 1];

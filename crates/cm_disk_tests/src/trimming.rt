@@ -1,4 +1,4 @@
-//! What lies after a claim is cut off. Of the disk only the trait is known.
+//! What is after a claim's bytes is cut off. Only the trait of the disk is known.
 ghost use Rattle.std.specs.Prelude.{◌≡◌, ◌≤◌, OnOk, length, take};
 ghost use Rattle.cm_disk.specs.Calls.{HasCause};
 ghost use Rattle.cm_guards.specs.Guards.{Guards};
@@ -8,7 +8,7 @@ ghost use Rattle.cm_guards.specs.Laws.{Stays};
 use crate::turning::Guarded;
 use cm_disk::{DeviceFault, Disk};
 
-/// Cuts to a length that the claim doesn't need more than.
+/// Cuts to a length that is at least what the claim needs.
 #[tactic(auto, using(cm_guards::proofs::cutting))]
 pub fn cut_behind<D: Disk, P: Guarded>(disk: &mut D, len: u64) -> Result<(), DeviceFault>
     requires within { len ≤ length (D.view.contents disk.old) }
@@ -23,7 +23,7 @@ pub fn cut_behind<D: Disk, P: Guarded>(disk: &mut D, len: u64) -> Result<(), Dev
     disk.cut(len)
 }
 
-/// Cuts, and stores the length.
+/// Cuts, and makes the length durable.
 #[tactic(auto, using(cm_guards::proofs::syncing))]
 pub fn trim<D: Disk, P: Guarded>(disk: &mut D, len: u64) -> Result<(), DeviceFault>
     requires within { len ≤ length (D.view.contents disk.old) }

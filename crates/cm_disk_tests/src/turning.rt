@@ -1,7 +1,7 @@
-//! From one claim to the next, by bytes stored apart and a gate. Of the disk only the trait is
+//! From one claim to the next, by bytes stored apart and a gate. Only the trait of the disk is
 //! known.
 ghost use Rattle.std.specs.Prelude.{◌≡◌, ◌≤◌, ◌+◌, ◌^◌, List, ℕ, [], ◌∷◌, length, OnOk, OnErr};
-ghost use Rattle.cm_disk.specs.Disk.{IsSettled};
+ghost use Rattle.cm_disk.specs.Disk.{IsDurable};
 ghost use Rattle.cm_disk.specs.Calls.{overwritten, HasCause};
 ghost use Rattle.cm_guards.specs.Guards.{Guard, Guards, Keeps, EachImage, IsApart};
 ghost use Rattle.cm_guards.specs.Gates.{OneOf, Turns};
@@ -18,7 +18,7 @@ pub trait Guarded: Claim {
     ghost guard: { Guard };
 }
 
-/// Writes bytes if nothing is guarded.
+/// Writes bytes at a place where nothing is guarded.
 #[tactic(auto, using(cm_guards::proofs::writing))]
 pub fn write_apart<D: Disk, P: Guarded>(
     disk: &mut D,
@@ -39,7 +39,7 @@ pub fn write_apart<D: Disk, P: Guarded>(
     disk.write_at(at, bytes)
 }
 
-/// Writes them, and stores them.
+/// Writes them, and makes them durable.
 #[tactic(auto, using(cm_guards::proofs::syncing))]
 pub fn store_apart<D: Disk, P: Guarded>(
     disk: &mut D,
@@ -53,8 +53,8 @@ pub fn store_apart<D: Disk, P: Guarded>(
     requires stays { Stays P.guard P.holds (D.view.contents disk.old) (D.view.unsynced disk.old) }
     ensures written { OnOk result
         (D.view.contents disk.new ≡ overwritten at bytes.now (D.view.contents disk.old)) }
-    ensures settled { OnOk result
-        (IsSettled (D.view.contents disk.new) (D.view.unsynced disk.new)) }
+    ensures durable { OnOk result
+        (IsDurable (D.view.contents disk.new) (D.view.unsynced disk.new)) }
     ensures stays { Stays P.guard P.holds (D.view.contents disk.new) (D.view.unsynced disk.new) }
     ensures any_moment { LeavesOnly D.view disk.old disk.new P.holds }
     ensures cause { HasCause (D.view.failures disk.old) (D.view.failures disk.new) result }
@@ -63,11 +63,11 @@ pub fn store_apart<D: Disk, P: Guarded>(
     disk.sync()
 }
 
-/// Writes the gate's byte if all is stored.
+/// Writes the gate's byte when everything is durable.
 #[tactic(auto, using(cm_guards::proofs::gating))]
 pub fn write_gate<D: Disk, P: Claim, Q: Claim>(disk: &mut D, gate: u64) -> Result<(), DeviceFault>
     requires within_limit { gate + 1 ≤ 2 ^ 40 }
-    requires settled { IsSettled (D.view.contents disk.old) (D.view.unsynced disk.old) }
+    requires durable { IsDurable (D.view.contents disk.old) (D.view.unsynced disk.old) }
     requires holds { P.holds (D.view.contents disk.old) }
     requires turns { Turns P.holds Q.holds gate OPEN (D.view.contents disk.old) }
     ensures turned { OnOk result (Q.holds (D.view.contents disk.new)) }
@@ -80,11 +80,11 @@ pub fn write_gate<D: Disk, P: Claim, Q: Claim>(disk: &mut D, gate: u64) -> Resul
     disk.write_at(gate, &[OPEN])
 }
 
-/// Writes it, and stores it.
+/// Writes it, and makes it durable.
 #[tactic(auto, using(cm_guards::proofs::settling))]
 pub fn turn_gate<D: Disk, P: Claim, Q: Claim>(disk: &mut D, gate: u64) -> Result<(), DeviceFault>
     requires within_limit { gate + 1 ≤ 2 ^ 40 }
-    requires settled { IsSettled (D.view.contents disk.old) (D.view.unsynced disk.old) }
+    requires durable { IsDurable (D.view.contents disk.old) (D.view.unsynced disk.old) }
     requires holds { P.holds (D.view.contents disk.old) }
     requires turns { Turns P.holds Q.holds gate OPEN (D.view.contents disk.old) }
     ensures done { OnOk result (EachImage (D.view.contents disk.new) (D.view.unsynced disk.new)
@@ -99,7 +99,8 @@ pub fn turn_gate<D: Disk, P: Claim, Q: Claim>(disk: &mut D, gate: u64) -> Result
     disk.sync()
 }
 
-/// From the first claim to the second: bytes apart from what the first rests on, and the gate.
+/// From the first claim to the second: stores bytes apart from what the first rests on, then turns
+/// the gate.
 #[tactic(auto, using(cm_guards::proofs::turning))]
 pub fn turn<D: Disk, P: Guarded, Q: Claim>(
     disk: &mut D,

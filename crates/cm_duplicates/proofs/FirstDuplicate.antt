@@ -1,4 +1,4 @@
--- Loops that look for the first duplicate, and what is found.
+-- Loops that search for the first duplicate, and what they find.
 -- For `first_among_repeated`, `first_by_pairs`, `first_duplicate_is_the_first`.
 use Rattle.std.proofs.Common.{◌≡◌, ⊎_elim, ℕ, zero, suc, ◌+◌, ◌<◌, ◌≤◌, Bool, true, false, cond}
 use Rattle.std.proofs.Common.{List, [], ◌∷◌, length, get_or, take, drop, Option, Some, None, refl}
@@ -45,7 +45,7 @@ module _ {A : Type 0} (test : ℕ → A → Bool) where
   none_fails items i total le so_far =
       ap (first_failing test i) (sym (drop_all i items le)) ∙ so_far
 
-  -- from a place on each item passes
+  -- each item from a place on passes
   pub all_pass : (front : ℕ) (items : List A)
       → ((i : ℕ) (x : A) → i < length items → test (front + i) (get_or items i x) ≡ true)
       → first_failing test front items ≡ None
@@ -217,7 +217,7 @@ stands_first c members i m none =
     (none_before (same_member c m) members i
     (λ k x lt within t. none k x lt within (agree c m (get_or members k x) t)))
 
--- one before it does
+-- a member before it agrees
 pub stands_again : (c : ClassFile) (members : List Member) (i k : ℕ) (m x : Member) → k < i
     → k < length members → Agree c m (get_or members k x) → is_first c members i m ≡ false
 stands_again c members i k m x lt within h =
@@ -227,7 +227,7 @@ stands_again c members i k m x lt within h =
 -- ---- the law
 
 module _ (c : ClassFile) (members : List Member) where
-  -- a place's member where none is given
+  -- a place's member doesn't depend on the default
   default_is : (i : ℕ) (x y : Member) → i < length members → get_or members i x ≡ get_or members i y
   default_is i x y lt = from members i lt
     where
@@ -307,7 +307,7 @@ module _ (c : ClassFile) (members : List Member) where
       → first_duplicate c members ≡ Some place
   first_from place is = by_found (first_duplicate c members) refl
     where
-      -- the other is neither before nor behind
+      -- another first duplicate is neither before nor after
       one : (k : ℕ) → IsFirstDuplicate c members k → k ≡ place
       one k other =
           ⊎_elim (λ e. e)

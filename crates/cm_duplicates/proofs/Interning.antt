@@ -1,4 +1,4 @@
--- A table of Utf8s after one more.
+-- A table of Utf8s after one more lookup.
 -- For `Interner::index_for`, `intern`.
 use Rattle.std.proofs.Common.{◌≡◌, ⊎_elim, ℕ, ◌<◌, Bool, true, false, cond, List, length, get_or}
 use Rattle.std.proofs.Common.{Option, Some, None, refl, sym, ap, ◌∙◌, unwrap_or, bytes_eq}
@@ -11,7 +11,7 @@ use Rattle.cm_class.specs.Names.{utf8}
 use Rattle.cm_duplicates.specs.Interned.{Interned, interned, NamesWhatItStandsFor, KnowsIndexes}
 use Rattle.cm_duplicates.specs.Interned.{KeepsInterned}
 
--- what stands for bytes after they were looked up, and for all others
+-- the table after bytes were looked up: what represents them, and all others
 pub record Looked (old new : Interned) (bytes : List ℕ) (index i : ℕ) : Type 0 where
   pub found : interned new bytes ≡ Some i
   pub same : i ≡ unwrap_or (interned old bytes) index
@@ -60,7 +60,7 @@ pub knows_kept : (c : ClassFile) (old new : Interned) (known : List (Option ℕ)
     → KeepsInterned old new → KnowsIndexes c old known → KnowsIndexes c new known
 knows_kept c old new known keeps knows index i h = keeps (utf8 c index) i (knows index i h)
 
--- where nothing changes
+-- the same if nothing changes
 pub same_keeps : (old new : Interned) → ((q : List ℕ) → interned new q ≡ interned old q)
     → KeepsInterned old new
 same_keeps old new same q i h = same q ∙ h
@@ -70,7 +70,7 @@ pub same_names : (c : ClassFile) (old new : Interned)
     → NamesWhatItStandsFor c new
 same_names c old new same names q i h = names q i (sym (same q) ∙ h)
 
--- what is known of an index more
+-- one more index is known
 pub knows_more : (c : ClassFile) (m : Interned) (known : List (Option ℕ)) (place i : ℕ)
     → place < length known → interned m (utf8 c place) ≡ Some i → KnowsIndexes c m known
     → KnowsIndexes c m (slice_set known place (Some i))
@@ -87,7 +87,7 @@ knows_more c m known place i within found knows index j h =
         let is : i ≡ j = same (rw get_or-set_same at at_place) in
         ap (λ (k : ℕ). interned m (utf8 c k)) e ∙ found ∙ ap (λ (k : ℕ). Some k) is
 
--- what stood for bytes is put back
+-- what represented the bytes before is put back
 pub put_back : (old between new : Interned) (bytes : List ℕ) (index before : ℕ)
     → interned new bytes ≡ Some before
     → ((q : List ℕ) → interned between q ≡ cond (bytes_eq bytes q) (Some index) (interned old q))

@@ -1,4 +1,4 @@
--- Which numbers stand at two places, found in a sorted list.
+-- Which numbers occur at two places, found in a sorted list.
 -- For `find_repeats`, `repeats_in`.
 use Rattle.std.proofs.Common.{◌≡◌, ⊎_elim, ℕ, zero, suc, ◌+◌, ◌-◌, ◌<◌, ◌≤◌, Bool, true, false, eqb}
 use Rattle.std.proofs.Common.{eq-eqb, List, [], ◌∷◌, ◌++◌, length, get_or, refl, sym, ap, subst}
@@ -101,7 +101,7 @@ is_any n xs has = at xs has.0 has.1 has.2
     at (x ∷ xs) (suc k) lt e =
         or_right (eqb x n) (list_any (λ x. eqb x n) xs) (at xs k (omega (arith, lt)) e)
 
--- both are this number
+-- both numbers are this one
 abbrev both_are : ℕ → ℕ → ℕ → Bool
 both_are n x y = eqb x n && eqb y n
 
@@ -117,7 +117,7 @@ flips n x y = swaps (eqb x n) (eqb y n)
 module _ (sorted repeated : List ℕ) (up : IsNonDecreasing sorted)
     (adjacent : (k : ℕ) → k + 1 < length sorted → get_or sorted k 0 ≡ get_or sorted (k + 1) 0
     → Contains repeated (get_or sorted k 0)) where
-  -- a number at two places of a sorted list stands at neighbouring ones
+  -- a number at two places of a sorted list is at two neighbouring ones
   twice : (n i j d : ℕ) → i < j → j < length sorted → get_or sorted i d ≡ n → get_or sorted j d ≡ n
       → Contains repeated n
   twice n i j d lt within ei ej =

@@ -1,4 +1,4 @@
--- Members that were looked at, by what stands for their names and descriptors.
+-- Members that were examined, by what represents their names and descriptors.
 -- For `first_among_repeated`, `first_by_strong_fingerprints`, `first_duplicate`.
 use Rattle.std.proofs.Common.{◌≡◌, ⊎_elim, inl, inr, ◌⊎◌, ℕ, zero, suc, ◌+◌, ◌<◌, Bool, true, false}
 use Rattle.std.proofs.Common.{cond, eqb, List, [], ◌∷◌, length, map, get_or, Option, Some, None}
@@ -17,7 +17,8 @@ use Rattle.cm_class.specs.Names.{utf8}
 use Rattle.cm_duplicates.specs.Duplicates.{is_first, first_duplicate}
 use Rattle.cm_duplicates.specs.First.{Agree}
 use Rattle.cm_duplicates.specs.declared.fingerprints.Strength.{Strength}
-use Rattle.cm_duplicates.specs.Fingerprints.{fingerprint, joined, member_fingerprint, AreNumbers}
+use Rattle.cm_duplicates.specs.Fingerprints.{fingerprint, joined_fingerprint, member_fingerprint}
+use Rattle.cm_duplicates.specs.Fingerprints.{AreNumbers}
 use Rattle.cm_duplicates.specs.Fingerprints.{HasRepeated}
 use Rattle.cm_duplicates.specs.Interned.{Interned, interned, NamesWhatItStandsFor, KeepsInterned}
 use Rattle.cm_duplicates.proofs.FirstDuplicate.{stands_first, stands_again, all_pass}
@@ -30,7 +31,7 @@ key_cmp p q = ordering_then (nat_cmp p.0 q.0) (nat_cmp p.1 q.1)
 abbrev pub same_key : ℕ × ℕ → ℕ × ℕ → Bool
 same_key p q = eqb p.0 q.0 && eqb p.1 q.1
 
--- the order of keys tells them apart
+-- the order of keys distinguishes them
 pub key_is : (p q : ℕ × ℕ) → is_eq (key_cmp p q) ≡ same_key p q
 key_is p q = grind (arith, nat_tests)
 
@@ -55,7 +56,7 @@ Keys = BTreeSet (ℕ × ℕ)
 abbrev pub Names : ClassFile → ℕ × ℕ → Member → Type 0
 Names c key m = (utf8 c key.0 ≡ utf8 c m.name) × (utf8 c key.1 ≡ utf8 c m.descriptor)
 
--- it is that of a member before a place
+-- the key is that of a member before a place
 pub record IsEarlier (c : ClassFile) (members : List Member) (place : ℕ)
     (key : ℕ × ℕ) : Type 0 where
   pub earlier : ℕ
@@ -84,12 +85,13 @@ nothing_seen c members numbers repeated table seen empty = record {
   keys = λ k m lt. absurd (omega (arith, lt));
 }
 
--- ---- members that agree have one fingerprint
+-- ---- members that agree have the same fingerprint
 
 same_fingerprint : (strength : Strength) (c : ClassFile) (m n : Member) → Agree c m n
     → member_fingerprint strength c m ≡ member_fingerprint strength c n
 same_fingerprint strength c m n h =
-    ap₂ (λ a b. joined (fingerprint strength a) (fingerprint strength b)) h.name h.descriptor
+    ap₂ (λ a b. joined_fingerprint (fingerprint strength a) (fingerprint strength b)) h.name
+    h.descriptor
 
 fingerprint_at : (strength : Strength) (c : ClassFile) (members : List Member) (i : ℕ) (m : Member)
     → i < length members
@@ -138,13 +140,13 @@ module _ (c : ClassFile) (members : List Member) (numbers repeated : List ℕ)
   repeats k i m x lt within is agree =
       has k i lt (omega (arith, within, are.as_many)) (one_number k i m x lt within is agree)
 
-  -- without one it stands first
+  -- a member whose number isn't repeated is the first with its name and descriptor
   pub first_without : (i : ℕ) (m : Member) → i < length members → m ≡ get_or members i m
       → (Contains repeated (get_or numbers i 0) → ⊥) → is_first c members i m ≡ true
   first_without i m within is lacks =
       stands_first c members i m (λ k x lt before agree. lacks (repeats k i m x lt within is agree))
 
-  -- where none is repeated, there is no duplicate
+  -- if no number is repeated, there is no duplicate
   pub none_repeated : length repeated ≡ 0 → first_duplicate c members ≡ None
   none_repeated empty = all_pass (is_first c members) 0 members (λ i m lt.
       let z : 0 + i ≡ i = omega arith in
@@ -170,7 +172,7 @@ module _ (c : ClassFile) (members : List Member) (numbers repeated : List ℕ)
           names = e.names;
         }
 
-    -- it isn't looked at
+    -- the next member isn't examined
     pub seen_without : (Contains repeated (get_or numbers i 0) → ⊥)
         → SeenBefore c members numbers repeated table seen (i + 1)
     seen_without lacks = record {
@@ -194,7 +196,7 @@ module _ (c : ClassFile) (members : List Member) (numbers repeated : List ℕ)
       some_is : (a b : ℕ) → ◌≡◌ {A = Option ℕ} (Some a) (Some b) → a ≡ b
       some_is a b e = cc
 
-      -- its key was seen
+      -- the key of the next member was seen
       pub again : contains key_cmp seen key ≡ true → is_first c members i m ≡ false
       again h =
           let e = so_far.earlier key h in
@@ -203,7 +205,7 @@ module _ (c : ClassFile) (members : List Member) (numbers repeated : List ℕ)
             descriptor = sym names_it.1 ∙ (e.names m).1;
           }
 
-      -- its key wasn't
+      -- the key of the next member wasn't seen
       pub first : Contains repeated (get_or numbers i 0) → contains key_cmp seen key ≡ false
           → is_first c members i m ≡ true
       first candidate h =
@@ -306,7 +308,7 @@ module _ (c : ClassFile) (members : List Member) (numbers repeated : List ℕ)
                   was_seen = at_key;
                 }
 
--- ---- the numbers alone that were seen before a place
+-- ---- just the numbers that were seen before a place
 
 abbrev pub Numbers : Type 0
 Numbers = BTreeSet ℕ
@@ -331,7 +333,7 @@ module _ (c : ClassFile) (members : List Member) (numbers repeated : List ℕ)
       (λ here. absurd (lacks (subst (λ (j : ℕ). Contains repeated (get_or numbers j 0)) here h)))
       (number_at k lt)
 
-  -- one that wasn't seen is that of no member before
+  -- a number that wasn't seen is that of no member before
   pub first_of_number : Contains repeated (get_or numbers i 0)
       → contains nat_cmp seen (get_or numbers i 0) ≡ false → is_first c members i m ≡ true
   first_of_number candidate fresh =
@@ -342,7 +344,7 @@ module _ (c : ClassFile) (members : List Member) (numbers repeated : List ℕ)
       ∙ so_far k lt inside (subst (Contains repeated) (sym one) candidate) in
       cc)
 
-  -- and is seen from then on
+  -- the number is seen from then on
   pub numbers_with : (after : Numbers)
       → ((q : ℕ) → contains nat_cmp after q
       ≡ cond (is_eq (nat_cmp (get_or numbers i 0) q)) true (contains nat_cmp seen q))

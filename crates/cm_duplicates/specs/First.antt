@@ -1,11 +1,11 @@
--- What the first duplicate is, in the subject's words.
+-- What the first duplicate is, in terms of the class file.
 use Rattle.std.specs.Prelude.{◌≡◌, ℕ, ◌<◌, List, length}
 use Rattle.std.specs.List.{slice_index_or}
 use Rattle.cm_class.specs.declared.class_file.ClassFile.{ClassFile}
 use Rattle.cm_class.specs.declared.class_file.Member.{Member}
 use Rattle.cm_class.specs.Names.{utf8}
 
--- two members have one name and one descriptor
+-- two members have the same name and the same descriptor
 pub record Agree (c : ClassFile) (m n : Member) : Type 0 where
   pub name : utf8 c m.name ≡ utf8 c n.name
   pub descriptor : utf8 c m.descriptor ≡ utf8 c n.descriptor
@@ -18,7 +18,7 @@ pub record IsDuplicate (c : ClassFile) (members : List Member) (place : ℕ) : T
   pub agree : (m : Member)
       → Agree c (slice_index_or members place m) (slice_index_or members earlier m)
 
--- and no place before it has a duplicate
+-- the member is a duplicate, and none before it is
 pub record IsFirstDuplicate (c : ClassFile) (members : List Member) (place : ℕ) : Type 0 where
   pub duplicate : IsDuplicate c members place
   pub first : (k : ℕ) → k < place → ¬ IsDuplicate c members k

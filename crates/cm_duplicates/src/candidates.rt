@@ -1,4 +1,4 @@
-//! Members whose fingerprints meet, compared by what stands for their names and descriptors.
+//! Members with colliding fingerprints, compared by what represents their names and descriptors.
 ghost use Rattle.std.specs.Prelude.{◌≡◌, ◌^◌, ◌<◌, length, IfOk};
 ghost use Rattle.std.specs.List.Sorted.{IsNonDecreasing};
 ghost use Rattle.cm_duplicates.specs.Duplicates.{first_duplicate};
@@ -10,7 +10,7 @@ use cm_class::{Class, Member};
 use std::alloc::{AllocError, Global};
 use std::collections::BTreeSet;
 
-/// The first duplicate. Only members whose fingerprint is a repeated one are looked at, and each of
+/// The first duplicate. Only members whose fingerprint is a repeated one are examined, and each of
 /// their Utf8s is compared once with the others, however many members name it.
 pub(crate) fn first_among_repeated(
     alloc: Global,

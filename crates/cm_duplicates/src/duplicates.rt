@@ -12,7 +12,7 @@ use crate::repeated::find_repeats;
 use cm_class::{Class, Member};
 use std::alloc::{AllocError, Global};
 
-/// So many members are compared pair by pair in less time than it takes to find their fingerprints.
+/// Up to this many members, comparing pair by pair is faster than finding their fingerprints.
 const FEW: usize = 32;
 
 fn first_duplicate(
@@ -31,7 +31,7 @@ fn first_duplicate(
     if meeting.is_empty() {
         return Ok(None);
     }
-    // Where nobody chose names whose fingerprints meet, those that do are a duplicate's.
+    // Unless someone chose names with colliding fingerprints, a collision means a duplicate.
     let found = first_where_they_meet(alloc, class, members, &fingerprints, &meeting)?;
     match found {
         Some(place) => Ok(Some(place)),
@@ -39,7 +39,7 @@ fn first_duplicate(
     }
 }
 
-/// The first duplicate, where quick fingerprints meet, by chance or by choice.
+/// The first duplicate, if quick fingerprints collide, by chance or by choice.
 fn first_by_strong_fingerprints(
     alloc: Global,
     class: &Class,
@@ -56,9 +56,9 @@ fn first_by_strong_fingerprints(
     first_among_repeated(alloc, class, members, &fingerprints, &repeated)
 }
 
-/// The first field with the name and the descriptor of one before it (JVMS 4.5); none where no two
-/// fields have both. The time is near-linear in the class, whatever names it has. `Err` where an
-/// allocation failed.
+/// The first field with the name and the descriptor of one before it (JVMS 4.5); `None` if no two
+/// fields have both. The time is near-linear in the size of the class, whatever names it has. `Err`
+/// if an allocation failed.
 pub fn first_duplicate_field(alloc: Global, class: &Class) -> Result<Option<u16>, AllocError>
     ensures { IfOk result (λ found. found ≡ first_duplicate class.now class.now.fields) }
 {
@@ -66,7 +66,8 @@ pub fn first_duplicate_field(alloc: Global, class: &Class) -> Result<Option<u16>
     first_duplicate(alloc, class, class.fields())
 }
 
-/// The first method with the name and the descriptor of one before it (JVMS 4.6), in the same way.
+/// The first method with the name and the descriptor of one before it (JVMS 4.6), found in the same
+/// way.
 pub fn first_duplicate_method(alloc: Global, class: &Class) -> Result<Option<u16>, AllocError>
     ensures { IfOk result (λ found. found ≡ first_duplicate class.now class.now.methods) }
 {

@@ -1,19 +1,21 @@
-//! Members by numbers that depend on their names and descriptors alone.
+//! Fingerprints of members: numbers that depend on their names and descriptors alone.
 ghost use Rattle.std.specs.Prelude.{◌≡◌, map, IfOk};
 ghost use Rattle.cm_class.specs.Names.{utf8};
-ghost use Rattle.cm_duplicates.specs.Fingerprints.{fingerprint, utf8_fingerprints, joined};
+ghost use Rattle.cm_duplicates.specs.Fingerprints.{fingerprint, utf8_fingerprints};
+ghost use Rattle.cm_duplicates.specs.Fingerprints.{joined_fingerprint};
 ghost use Rattle.cm_duplicates.specs.Fingerprints.{member_fingerprint};
 
 use cm_class::{Class, Member};
 use std::alloc::{AllocError, Global};
 use std::hash::{DefaultHasher, FoldHasher, Hasher};
 
-/// How fingerprints are made.
+/// How fingerprints are computed.
 #[derive(Clone, Copy)]
 pub(crate) enum Strength {
-    /// Sixteen bytes a step. Whoever picks the bytes can make any number of fingerprints meet.
+    /// Sixteen bytes per step. Whoever chooses the bytes can make any number of fingerprints
+    /// collide.
     Quick,
-    /// Slower, and hard to make meet.
+    /// Slower, and hard to make collide.
     Strong,
 }
 
@@ -36,8 +38,8 @@ fn fingerprint(strength: Strength, bytes: &[u8]) -> u64
     }
 }
 
-/// Of each index of the pool, from 0 on, so that a Utf8 is walked once, however many members name
-/// it.
+/// The fingerprint at each index of the pool, from 0 on, so that a Utf8 is read once, however many
+/// members name it.
 fn utf8_fingerprints(
     alloc: Global,
     class: &Class,
@@ -54,7 +56,7 @@ fn utf8_fingerprints(
     Ok(fingerprints)
 }
 
-/// At an index. Past the pool there are no bytes.
+/// The fingerprint at an index. Past the end of the pool there are no bytes.
 fn fingerprint_at(class: &Class, fingerprints: &[u64], index: u16, strength: Strength) -> u64
     requires { fingerprints.now ≡ utf8_fingerprints strength class.now }
     ensures { result ≡ fingerprint strength (utf8 class.now index) }
@@ -65,14 +67,14 @@ fn fingerprint_at(class: &Class, fingerprints: &[u64], index: u16, strength: Str
     }
 }
 
-#[tactic(auto, unfolding(crate::specs::Fingerprints::joined))]
+#[tactic(auto, unfolding(crate::specs::Fingerprints::joined_fingerprint))]
 fn member_fingerprint(name: u64, descriptor: u64) -> u64
-    ensures { result ≡ joined name descriptor }
+    ensures { result ≡ joined_fingerprint name descriptor }
 {
     name ^ descriptor.rotate_left(32)
 }
 
-/// Of each member, in their order.
+/// The fingerprint of each member, in order.
 pub(crate) fn member_fingerprints(
     alloc: Global,
     class: &Class,

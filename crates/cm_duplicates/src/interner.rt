@@ -1,5 +1,4 @@
-//! Utf8s by one index for each, so that long ones are compared once, however many members name
-//! them.
+//! One index for each Utf8, so that long ones are compared once, however many members name them.
 ghost use Rattle.std.specs.Prelude.{◌≡◌, ℕ, List, Some, IfOk, OnOk, OnErr, unwrap_or, bytes_eq};
 ghost use Rattle.std.specs.Prelude.{if◌then◌else◌};
 ghost use Rattle.cm_class.specs.Names.{utf8};
@@ -10,19 +9,19 @@ use cm_class::{Class, Member};
 use std::alloc::{AllocError, Global};
 use std::collections::BTreeMap;
 
-/// For each Utf8 that was asked for one index that stands for it, and for all that are equal.
+/// For each Utf8 that was looked up, one index that represents it and all equal ones.
 #[derive(Drop)]
 pub(crate) struct Interner<'a> {
     pub(crate) class: &'a Class<'a>,
-    /// The index that stands for bytes.
+    /// The index that represents some bytes.
     pub(crate) interned: BTreeMap<&'a [u8], u16>,
-    /// For an index the one that stands for its Utf8, once it was asked for.
+    /// For an index, the one that represents its Utf8, once it was looked up.
     known: Vec<Option<u16>>,
     ghost names: { NamesWhatItStandsFor class.now interned },
     ghost knows: { KnowsIndexes class.now interned known.items },
 }
 
-/// The index that stands for bytes: the one that did before, or this one from now on.
+/// The index that represents some bytes: the one that did before, or this one from now on.
 fn intern<'a>(
     table: &mut BTreeMap<&'a [u8], u16>,
     bytes: &'a [u8],
@@ -35,7 +34,8 @@ fn intern<'a>(
         ≡ (if bytes_eq bytes.now q then interned table.new bytes.now else interned table.old q)) }
     ensures err { OnErr result ((q : List ℕ) → interned table.new q ≡ interned table.old q) }
 {
-    // Most bytes are new, so they are put in first, and what stood for them before is put back.
+    // Most bytes are new, so they are inserted first; if something represented them before, it is
+    // put back.
     let Some(before) = table.insert(bytes, index)? else {
         return Ok(index);
     };
@@ -58,7 +58,8 @@ impl<'a> Interner<'a> {
         })
     }
 
-    /// The index that stands for the Utf8 that an index names; for no bytes, where it names none.
+    /// The index that represents the Utf8 that an index names; if it names none, the one for no
+    /// bytes.
     fn index_for(&mut self, index: u16) -> Result<u16, AllocError>
         ensures class { self.new.class.now ≡ self.old.class.now }
         ensures found { IfOk result
@@ -76,7 +77,7 @@ impl<'a> Interner<'a> {
         Ok(found)
     }
 
-    /// What stands for a member's name and for its descriptor.
+    /// The indexes that represent a member's name and its descriptor.
     pub(crate) fn key_for(&mut self, member: &Member) -> Result<(u16, u16), AllocError>
         ensures class { self.new.class.now ≡ self.old.class.now }
         ensures name { IfOk result

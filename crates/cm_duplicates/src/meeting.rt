@@ -1,4 +1,4 @@
-//! The first member whose fingerprint is that of one before it: mostly it is a duplicate.
+//! The first member whose fingerprint equals that of one before it: usually it is a duplicate.
 ghost use Rattle.std.specs.Prelude.{◌≡◌, ◌≤◌, ◌^◌, ◌<◌, length, true, IfOk, IfSome, Some};
 ghost use Rattle.std.specs.List.{list_any};
 ghost use Rattle.std.specs.List.Sorted.{IsNonDecreasing};
@@ -11,7 +11,7 @@ use cm_class::{Class, Member};
 use std::alloc::{AllocError, Global};
 use std::collections::BTreeSet;
 
-/// Whether a member is the same as one of others, of those that have its fingerprint.
+/// Whether a member is the same as one of those that have its fingerprint.
 fn is_met(
     class: &Class,
     member: &Member,
@@ -30,8 +30,8 @@ fn is_met(
     false
 }
 
-/// The first duplicate, where it is the first member whose fingerprint stands before it. `None`
-/// where that one differs from those before it: the first duplicate is then still to find.
+/// The first duplicate, if it is the first member with a fingerprint that occurred before. `None`
+/// if that member differs from those before it: the first duplicate is then still to be found.
 pub(crate) fn first_where_they_meet(
     alloc: Global,
     class: &Class,

@@ -1,4 +1,4 @@
-//! Few members, compared pair by pair.
+//! A small number of members, compared pair by pair.
 ghost use Rattle.std.specs.Prelude.{◌≡◌, ◌^◌, ◌<◌, not, length, bytes_eq};
 ghost use Rattle.std.specs.List.{list_any};
 ghost use Rattle.cm_class.specs.Names.{utf8};

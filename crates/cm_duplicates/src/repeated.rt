@@ -1,4 +1,4 @@
-//! Which numbers stand at more than one place.
+//! Which numbers occur more than once.
 ghost use Rattle.std.specs.Prelude.{◌↔◌, IsTrue, IfOk};
 ghost use Rattle.std.specs.List.{Contains};
 ghost use Rattle.std.specs.List.Sorted.{IsNonDecreasing};
@@ -21,7 +21,7 @@ fn repeats_in(alloc: Global, sorted: &[u64]) -> Result<Vec<u64>, AllocError>
     Ok(repeated)
 }
 
-/// The numbers that stand at more than one place, ascending.
+/// The numbers that occur more than once, in ascending order.
 pub(crate) fn find_repeats(alloc: Global, numbers: &[u64]) -> Result<Vec<u64>, AllocError>
     ensures all { IfOk result (λ r. HasRepeated numbers.now r.items) }
     ensures order { IfOk result (λ r. IsNonDecreasing r.items) }
@@ -31,7 +31,7 @@ pub(crate) fn find_repeats(alloc: Global, numbers: &[u64]) -> Result<Vec<u64>, A
     repeats_in(alloc, &sorted)
 }
 
-/// Whether a number is among those that ascend.
+/// Whether a number is among those of an ascending list.
 pub(crate) fn is_among(numbers: &[u64], number: u64) -> bool
     requires { IsNonDecreasing numbers.now }
     ensures { IsTrue result ↔ Contains numbers.now number }

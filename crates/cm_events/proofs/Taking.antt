@@ -1,31 +1,31 @@
--- Lines that are taken one after another.
+-- Lines taken one after another.
 -- For `read_events`.
 use Rattle.std.proofs.Common.{◌≡◌, ℕ, ◌+◌, ◌++◌, true, cond, List, [], ◌∷◌, Option, Some, sym, ap}
 use Rattle.std.proofs.Common.{subst, ◌∙◌, append_assoc, append-nil}
 use Rattle.std.specs.Prelude.{map, is_some}
 use Rattle.std.specs.List.{flat_map}
-use Rattle.cm_prepare.specs.declared.command.Command.{Command}
-use Rattle.cm_prepare.specs.declared.command.Command.TheVariants as command
+use Rattle.cm_commands.specs.declared.command.Command.{Command}
+use Rattle.cm_commands.specs.declared.command.Command.TheVariants as command
 use Rattle.cm_world.specs.declared.event.Event.{Event}
 use Rattle.cm_world.specs.declared.event.Event.TheVariants as event
 use Rattle.cm_events.specs.declared.made.Made.{Made}
 use Rattle.cm_events.specs.declared.made.Made.TheVariants as made
 use Rattle.cm_events.specs.declared.simulation.Turn.{Turn}
 use Rattle.cm_events.specs.declared.simulation.Simulation.{Simulation}
-use Rattle.cm_events.specs.Asked.{Asked, event_of_line}
-use Rattle.cm_events.specs.Made.{IsCommand, IsEvent, Comes, EachComes, AreOf, Takes, event_in}
+use Rattle.cm_events.specs.Asked.{EventAsked, event_of_line}
+use Rattle.cm_events.specs.Made.{IsCommand, IsEvent, Comes, EachComes, AreOf, TakesLine, event_in}
 use Rattle.cm_events.specs.Made.{turn_of, first_bad_from}
 
--- ---- what becomes of something was asked for
+-- ---- only a request has a result
 
-command_asked : (asked : Option Asked) (c : Command) → IsCommand asked c → is_some asked ≡ true
+command_asked : (asked : Option EventAsked) (c : Command) → IsCommand asked c → is_some asked ≡ true
 command_asked asked (command.AddLoader name) h = ap is_some h
 command_asked asked (command.Define loader class) h = ap is_some h.asked_is
 command_asked asked (command.Unload name) h = ap is_some h
 command_asked asked (command.Tighten name) h = ap is_some h
 command_asked asked (command.UnloadAll names) h = ap is_some h.asked_is
 
-event_asked : (asked : Option Asked) (e : Event) → IsEvent asked e → is_some asked ≡ true
+event_asked : (asked : Option EventAsked) (e : Event) → IsEvent asked e → is_some asked ≡ true
 event_asked asked (event.Accept c) h = command_asked asked c h
 event_asked asked event.Seal h = ap is_some h
 event_asked asked event.Advance h = ap is_some h
@@ -36,13 +36,13 @@ event_asked asked (event.Fault stores) h = ap is_some h
 event_asked asked event.Reopen h = ap is_some h
 event_asked asked (event.Crash choice) h = ap is_some h
 
-pub made_asked : (asked : Option Asked) (m : Made) → Comes asked m → is_some asked ≡ true
+pub made_asked : (asked : Option EventAsked) (m : Made) → Comes asked m → is_some asked ≡ true
 made_asked asked (made.Runs e) h = event_asked asked e h
 made_asked asked (made.Refused r) h = ap is_some h.asked_is
 
--- ---- one line more
+-- ---- one more line
 
--- what becomes of the lines that are left goes behind what there is
+-- the results of the lines that are left are appended to what there is
 abbrev pub TakesTheRest : List (List ℕ) → List (List ℕ) → List Event → List Turn → Type 0
 TakesTheRest all left events turns =
     (more : List Made) → EachComes left more
@@ -50,7 +50,7 @@ TakesTheRest all left events turns =
 
 pub takes_more : (all left behind : List (List ℕ)) (line : List ℕ) (old new : Simulation)
     → left ≡ line ∷ behind → TakesTheRest all left old.events.items old.turns.items
-    → Takes line old new → TakesTheRest all behind new.events.items new.turns.items
+    → TakesLine line old new → TakesTheRest all behind new.events.items new.turns.items
 takes_more all left behind line old new left_is rest takes more each =
     let m = takes.taken in
     let both : EachComes (line ∷ behind) (m ∷ more) = (takes.comes, each) in
@@ -78,7 +78,7 @@ takes_none all left events turns left_is rest =
       turns_are = sym (append-nil turns) ∙ of.turns_are;
     }
 
--- ---- the first line of another form
+-- ---- the first line of a wrong form
 
 pub bad_behind : (n : ℕ) (left behind : List (List ℕ)) (line : List ℕ) (m : Made)
     → left ≡ line ∷ behind → Comes (event_of_line line) m

@@ -1,5 +1,5 @@
--- Which line of a simulation asks for what, by its words: these are separated by one space, and
--- none is empty.
+-- Which line of a simulation makes which request, by its words: these are separated by one space,
+-- and none is empty.
 use Rattle.std.specs.Prelude.{ℕ, Bool, ◌&&◌, nat_le, nat_lt, if◌then◌else◌, List, [], ◌∷◌, length}
 use Rattle.std.specs.Prelude.{codes, Option, Some, None}
 use Rattle.std.specs.Option.{option_map, option_and_then}
@@ -12,41 +12,41 @@ use Rattle.cm_events.specs.declared.line.EventLine.{EventLine}
 use Rattle.cm_events.specs.declared.line.EventLine.TheVariants as line
 use Rattle.cm_events.specs.Numbers.{number_in}
 
--- What is asked for: loaders, classes and what they are looked up by as bytes.
-pub data Asked : Type 0 where
-  AsksLoader : List ℕ → Asked
-  -- in a loader, a class of these bytes
-  AsksDefine : List ℕ → List ℕ → Asked
-  AsksUnload : List ℕ → Asked
-  AsksTighten : List ℕ → Asked
-  AsksUnloadAll : List (List ℕ) → Asked
-  AsksSeal : Asked
-  AsksAdvance : Asked
-  AsksTrim : Asked
-  AsksLearn : Asked
-  AsksLook : List ℕ → List ℕ → Asked
-  AsksFault : ℕ → Asked
-  AsksReopen : Asked
-  -- a length, and the bytes that fill what is loose
-  AsksCrash : ℕ → List ℕ → Asked
+-- Requests: loaders, classes, and what they are looked up by, as bytes.
+pub data EventAsked : Type 0 where
+  AsksLoader : List ℕ → EventAsked
+  -- a class of these bytes, to be defined in a loader
+  AsksDefine : List ℕ → List ℕ → EventAsked
+  AsksUnload : List ℕ → EventAsked
+  AsksTighten : List ℕ → EventAsked
+  AsksUnloadAll : List (List ℕ) → EventAsked
+  AsksSeal : EventAsked
+  AsksAdvance : EventAsked
+  AsksTrim : EventAsked
+  AsksLearn : EventAsked
+  AsksLook : List ℕ → List ℕ → EventAsked
+  AsksFault : ℕ → EventAsked
+  AsksReopen : EventAsked
+  -- a length, and the bytes that fill what is unsynced
+  AsksCrash : ℕ → List ℕ → EventAsked
 
 -- the bytes that digits spell
 abbrev pub bytes_in : List ℕ → Option (List ℕ)
 bytes_in digits = result_ok (decode_of digits)
 
--- a class of these digits in a loader
-abbrev pub define_of : List ℕ → List ℕ → Option Asked
+-- the definition of a class with these digits in a loader
+abbrev pub define_of : List ℕ → List ℕ → Option EventAsked
 define_of loader digits = option_map (λ bytes. AsksDefine loader bytes) (bytes_in digits)
 
--- a crash that leaves this length; a dash is no bytes
-abbrev pub crash_of : ℕ → List ℕ → Option Asked
+-- a crash that leaves this length; a dash denotes no bytes
+abbrev pub crash_of : ℕ → List ℕ → Option EventAsked
 crash_of len digits =
     if bytes_eq digits (codes "-") then Some (AsksCrash len [])
     else option_map (λ bytes. AsksCrash len bytes) (bytes_in digits)
 
 -- ---- by the number of words
 
-abbrev pub asked_alone : List ℕ → Option Asked
+abbrev pub asked_alone : List ℕ → Option EventAsked
 asked_alone verb =
     if bytes_eq verb (codes "seal") then Some AsksSeal
     else if bytes_eq verb (codes "advance") then Some AsksAdvance
@@ -55,7 +55,7 @@ asked_alone verb =
     else if bytes_eq verb (codes "reopen") then Some AsksReopen
     else None
 
-abbrev pub asked_of_one : List ℕ → List ℕ → Option Asked
+abbrev pub asked_of_one : List ℕ → List ℕ → Option EventAsked
 asked_of_one verb word =
     if bytes_eq verb (codes "loader") && is_word word then Some (AsksLoader word)
     else if bytes_eq verb (codes "unload") && is_word word then Some (AsksUnload word)
@@ -63,7 +63,7 @@ asked_of_one verb word =
     else if bytes_eq verb (codes "fault") then option_map AsksFault (number_in word)
     else None
 
-abbrev pub asked_of_two : List ℕ → List ℕ → List ℕ → Option Asked
+abbrev pub asked_of_two : List ℕ → List ℕ → List ℕ → Option EventAsked
 asked_of_two verb word last =
     if bytes_eq verb (codes "define") && (is_word word && is_word last) then define_of word last
     else if bytes_eq verb (codes "look") && (is_word word && is_word last)
@@ -72,42 +72,42 @@ asked_of_two verb word last =
     then option_and_then (λ len. crash_of len last) (number_in word)
     else None
 
--- of a verb and the words after it, if the verb wants two at most
-abbrev pub asked_of_few : List ℕ → List (List ℕ) → Option Asked
+-- the request of a verb and the words after it, if the verb takes at most two
+abbrev pub asked_of_few : List ℕ → List (List ℕ) → Option EventAsked
 asked_of_few verb [] = asked_alone verb
 asked_of_few verb (word ∷ []) = asked_of_one verb word
 asked_of_few verb (word ∷ last ∷ []) = asked_of_two verb word last
 asked_of_few verb (word ∷ last ∷ further ∷ more) = None
 
--- of the words that the line consists of
-abbrev pub asked_of_words : List (List ℕ) → Option Asked
+-- the request of the words that the line consists of
+abbrev pub asked_of_words : List (List ℕ) → Option EventAsked
 asked_of_words [] = None
 asked_of_words (verb ∷ words) =
     if bytes_eq verb (codes "unloadall") && are_words words then Some (AsksUnloadAll words)
     else asked_of_few verb words
 
--- A line that is too long asks for nothing, whatever it says.
-abbrev pub event_of_line : List ℕ → Option Asked
+-- A line that is too long is no request, whatever it says.
+abbrev pub event_of_line : List ℕ → Option EventAsked
 event_of_line line =
     if nat_lt line_limit (length line) then None else asked_of_words (pieces 32 line)
 
 -- ---- the program's values
 
--- the digits aren't read yet
-abbrev pub seen : EventLine → Option Asked
-seen (line.Loader name) = Some (AsksLoader name.now)
-seen (line.Define loader digits) = define_of loader.now digits.now
-seen (line.Unload name) = Some (AsksUnload name.now)
-seen (line.Tighten name) = Some (AsksTighten name.now)
-seen (line.UnloadAll names) = Some (AsksUnloadAll (pieces 32 names.now))
-seen line.Seal = Some AsksSeal
-seen line.Advance = Some AsksAdvance
-seen line.Trim = Some AsksTrim
-seen line.Learn = Some AsksLearn
-seen (line.Look loader class) = Some (AsksLook loader.now class.now)
-seen (line.Fault stores) = Some (AsksFault stores)
-seen line.Reopen = Some AsksReopen
-seen (line.Crash len digits) = crash_of len digits.now
+-- the request of a line whose digits aren't decoded yet
+abbrev pub asked_by_event : EventLine → Option EventAsked
+asked_by_event (line.Loader name) = Some (AsksLoader name.now)
+asked_by_event (line.Define loader digits) = define_of loader.now digits.now
+asked_by_event (line.Unload name) = Some (AsksUnload name.now)
+asked_by_event (line.Tighten name) = Some (AsksTighten name.now)
+asked_by_event (line.UnloadAll names) = Some (AsksUnloadAll (pieces 32 names.now))
+asked_by_event line.Seal = Some AsksSeal
+asked_by_event line.Advance = Some AsksAdvance
+asked_by_event line.Trim = Some AsksTrim
+asked_by_event line.Learn = Some AsksLearn
+asked_by_event (line.Look loader class) = Some (AsksLook loader.now class.now)
+asked_by_event (line.Fault stores) = Some (AsksFault stores)
+asked_by_event line.Reopen = Some AsksReopen
+asked_by_event (line.Crash len digits) = crash_of len digits.now
 
 -- ---- the first line
 

@@ -1,4 +1,4 @@
--- Which number a word spells: decimal digits alone, of a number that fits 64 bits.
+-- Which number a word spells: in decimal digits only, and if the number fits 64 bits.
 use Rattle.std.specs.Prelude.{ℕ, ◌+◌, ◌-◌, ◌*◌, ◌^◌, ◌&&◌, nat_le, nat_lt, if◌then◌else◌, List, []}
 use Rattle.std.specs.Prelude.{◌∷◌, Option, Some, None}
 use Rattle.std.specs.Option.{option_and_then}

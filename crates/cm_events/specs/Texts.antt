@@ -1,12 +1,12 @@
--- The lines that answer those of a simulation.
+-- The lines that are the replies to those of a simulation.
 use Rattle.std.specs.Prelude.{ℕ, List, [], ◌∷◌, ◌++◌, length, codes, Option, Some, None}
 use Rattle.std.specs.Option.{option_map}
 use Rattle.std.specs.Fmt.{decimal}
 use Rattle.std.specs.Arc.{arc_value}
 use Rattle.std.specs.Borrow.{Bor}
-use Rattle.cm_prepare.specs.declared.refusal.Refusal.{Refusal}
-use Rattle.cm_prepare.specs.declared.refusal.Refusal.TheVariants.{NoMemory}
-use Rattle.cm_prepare.specs.Refusals.{refusal_number}
+use Rattle.cm_commands.specs.declared.refusal.Refusal.{Refusal}
+use Rattle.cm_commands.specs.declared.refusal.Refusal.TheVariants.{NoMemory}
+use Rattle.cm_commands.specs.Refusals.{refusal_number}
 use Rattle.cm_session.specs.declared.session.Sealed.{Sealed}
 use Rattle.cm_world.specs.declared.reply.Reply.{Reply}
 use Rattle.cm_world.specs.declared.reply.Reply.TheVariants as reply
@@ -51,14 +51,14 @@ reply_text (reply.Opened n) = numbered (codes "opened") n
 abbrev pub with_newline : List ℕ → List ℕ
 with_newline text = text ++ 10 ∷ []
 
--- One line for each turn: for one that runs the next reply, as far as there are any.
+-- One line for each turn: for one that runs, the next reply, as long as there are any.
 abbrev pub answers : List Turn → List Reply → List ℕ
 answers [] replies = []
 answers (turn.Refused r ∷ turns) replies = with_newline (refused_text r) ++ answers turns replies
 answers (turn.Runs ∷ turns) [] = []
 answers (turn.Runs ∷ turns) (r ∷ replies) = with_newline (reply_text r) ++ answers turns replies
 
--- of the turns that are left, if there are replies for them
+-- the lines of the turns that are left, if there are replies for them
 abbrev pub answers_behind : List Turn → Option (Bor (List Reply)) → List ℕ
 answers_behind turns None = []
 answers_behind turns (Some replies) = answers turns replies.now

@@ -2,7 +2,7 @@
 
 use thiserror::Error;
 
-/// Why a text isn't read as a simulation.
+/// Why a text can't be read as a simulation.
 #[derive(Clone, Copy, Debug, PartialEq, Eq, Error)]
 pub enum SimulationFault {
     /// The line of this number, counted from 1, isn't an event, or the first line doesn't give the

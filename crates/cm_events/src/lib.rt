@@ -1,4 +1,4 @@
-//! Simulations as text: lines that ask for a world's events, their run, and lines of replies.
+//! Simulations as text: lines that request a world's events, their run, and lines of replies.
 #![tactic(auto)]
 
 mod fault;

@@ -1,17 +1,17 @@
-//! What a line asks for.
+//! A line's request.
 
 ghost use Rattle.std.specs.Prelude.{◌≡◌, ◌∷◌, nat_lt, length};
 ghost use Rattle.std.specs.Option.{option_map, option_and_then};
 ghost use Rattle.cm_lines.specs.Lines.{pieces, line_limit};
 ghost use Rattle.cm_events.specs.Numbers.{number_in};
-ghost use Rattle.cm_events.specs.Asked.{seen, asked_alone, asked_of_one, asked_of_two};
+ghost use Rattle.cm_events.specs.Asked.{asked_by_event, asked_alone, asked_of_one, asked_of_two};
 ghost use Rattle.cm_events.specs.Asked.{asked_of_few, asked_of_words, event_of_line, AsksFault};
 ghost use Rattle.cm_events.specs.Asked.{crash_of};
 
 use crate::number::number_in;
 use cm_lines::{LINE_LIMIT, are_words, cut};
 
-/// What a line asks for. Hexadecimal digits aren't read yet.
+/// A line's request. Hexadecimal digits aren't decoded yet.
 #[derive(Clone, Copy, Debug, PartialEq, Eq)]
 pub(crate) enum EventLine<'a> {
     /// `loader NAME`
@@ -22,7 +22,7 @@ pub(crate) enum EventLine<'a> {
     Unload(&'a [u8]),
     /// `tighten NAME`
     Tighten(&'a [u8]),
-    /// `unloadall NAME NAME ..`: the names as they stand in the line, with one space between.
+    /// `unloadall NAME NAME ..`: the names as they are in the line, with one space between.
     UnloadAll(&'a [u8]),
     /// `seal`
     Seal,
@@ -42,17 +42,16 @@ pub(crate) enum EventLine<'a> {
     Crash(u64, &'a [u8]),
 }
 
-/// Whether a line is longer than lines may be.
+/// Whether a line is longer than the limit.
 pub(crate) fn is_long(line: &[u8]) -> bool
     ensures { result ≡ nat_lt line_limit (length line.now) }
 {
     line.len() > LINE_LIMIT
 }
 
-/// What a line asks for, if it has one of the known forms: words with one space between, none
-/// empty.
+/// A line's request, if it has one of the known forms: words with one space between, none empty.
 pub(crate) fn parse(line: &[u8]) -> Option<EventLine<'_>>
-    ensures { option_and_then seen result ≡ event_of_line line.now }
+    ensures { option_and_then asked_by_event result ≡ event_of_line line.now }
 {
     if is_long(line) {
         return None;
@@ -61,7 +60,7 @@ pub(crate) fn parse(line: &[u8]) -> Option<EventLine<'_>>
 }
 
 fn parse_words(line: &[u8]) -> Option<EventLine<'_>>
-    ensures { option_and_then seen result ≡ asked_of_words (pieces 32 line.now) }
+    ensures { option_and_then asked_by_event result ≡ asked_of_words (pieces 32 line.now) }
 {
     match cut(line, b' ') {
         None => parse_lone_verb(line),
@@ -69,9 +68,10 @@ fn parse_words(line: &[u8]) -> Option<EventLine<'_>>
     }
 }
 
-/// Of a verb and the words after it.
+/// The request of a verb and the words after it.
 fn with_words<'a>(verb: &[u8], rest: &'a [u8]) -> Option<EventLine<'a>>
-    ensures { option_and_then seen result ≡ asked_of_words (verb.now ∷ pieces 32 rest.now) }
+    ensures { option_and_then asked_by_event result
+        ≡ asked_of_words (verb.now ∷ pieces 32 rest.now) }
 {
     if verb == b"unloadall".as_slice() && are_words(rest) {
         Some(EventLine::UnloadAll(rest))
@@ -81,7 +81,7 @@ fn with_words<'a>(verb: &[u8], rest: &'a [u8]) -> Option<EventLine<'a>>
 }
 
 fn with_few<'a>(verb: &[u8], rest: &'a [u8]) -> Option<EventLine<'a>>
-    ensures { option_and_then seen result ≡ asked_of_few verb.now (pieces 32 rest.now) }
+    ensures { option_and_then asked_by_event result ≡ asked_of_few verb.now (pieces 32 rest.now) }
 {
     match cut(rest, b' ') {
         None => with_one(verb, rest),
@@ -93,7 +93,7 @@ fn with_few<'a>(verb: &[u8], rest: &'a [u8]) -> Option<EventLine<'a>>
 }
 
 fn parse_lone_verb<'a>(verb: &[u8]) -> Option<EventLine<'a>>
-    ensures { option_and_then seen result ≡ asked_alone verb.now }
+    ensures { option_and_then asked_by_event result ≡ asked_alone verb.now }
 {
     if verb == b"seal".as_slice() {
         Some(EventLine::Seal)
@@ -111,7 +111,7 @@ fn parse_lone_verb<'a>(verb: &[u8]) -> Option<EventLine<'a>>
 }
 
 fn with_one<'a>(verb: &[u8], word: &'a [u8]) -> Option<EventLine<'a>>
-    ensures { option_and_then seen result ≡ asked_of_one verb.now word.now }
+    ensures { option_and_then asked_by_event result ≡ asked_of_one verb.now word.now }
 {
     if verb == b"loader".as_slice() && !word.is_empty() {
         Some(EventLine::Loader(word))
@@ -128,7 +128,7 @@ fn with_one<'a>(verb: &[u8], word: &'a [u8]) -> Option<EventLine<'a>>
 
 /// `fault N`
 fn fault<'a>(word: &[u8]) -> Option<EventLine<'a>>
-    ensures { option_and_then seen result ≡ option_map AsksFault (number_in word.now) }
+    ensures { option_and_then asked_by_event result ≡ option_map AsksFault (number_in word.now) }
 {
     match number_in(word) {
         Some(stores) => Some(EventLine::Fault(stores)),
@@ -137,7 +137,7 @@ fn fault<'a>(word: &[u8]) -> Option<EventLine<'a>>
 }
 
 fn with_two<'a>(verb: &[u8], word: &'a [u8], last: &'a [u8]) -> Option<EventLine<'a>>
-    ensures { option_and_then seen result ≡ asked_of_two verb.now word.now last.now }
+    ensures { option_and_then asked_by_event result ≡ asked_of_two verb.now word.now last.now }
 {
     if verb == b"define".as_slice() && !word.is_empty() && !last.is_empty() {
         Some(EventLine::Define(word, last))
@@ -152,7 +152,7 @@ fn with_two<'a>(verb: &[u8], word: &'a [u8], last: &'a [u8]) -> Option<EventLine
 
 /// `crash LENGTH HEX`
 fn crash<'a>(word: &[u8], digits: &'a [u8]) -> Option<EventLine<'a>>
-    ensures { option_and_then seen result
+    ensures { option_and_then asked_by_event result
         ≡ option_and_then (λ len. crash_of len digits.now) (number_in word.now) }
 {
     match number_in(word) {

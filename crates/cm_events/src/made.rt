@@ -2,18 +2,19 @@
 
 ghost use Rattle.std.specs.Prelude.{◌≡◌, Some, None, IfOk, IsErrOf};
 ghost use Rattle.cm_lines.specs.Lines.{pieces};
-ghost use Rattle.cm_events.specs.Asked.{seen, event_of_line, define_of, crash_of, bytes_in};
+ghost use Rattle.cm_events.specs.Asked.{asked_by_event, event_of_line, define_of, crash_of};
+ghost use Rattle.cm_events.specs.Asked.{bytes_in};
 ghost use Rattle.cm_events.specs.Asked.{AsksDefine, AsksUnloadAll};
 ghost use Rattle.cm_events.specs.Made.{Comes};
 
 use crate::line::{EventLine, parse};
+use cm_commands::{Command, Names, Refusal, prepare};
 use cm_disk::Choice;
-use cm_prepare::{Command, Names, Refusal, prepare};
 use cm_world::Event;
 use hex::FromHexError;
 use std::alloc::Global;
 
-/// What becomes of a line.
+/// The result of a line.
 #[derive(Drop)]
 pub(crate) enum Made<'a> {
     /// It is an event.
@@ -22,16 +23,16 @@ pub(crate) enum Made<'a> {
     Refused(Refusal),
 }
 
-/// Why nothing becomes of a line.
+/// Why a line has no result.
 #[derive(Clone, Copy, Debug, PartialEq, Eq)]
 pub(crate) enum EventFault {
-    /// It has no known form.
+    /// It has none of the known forms.
     BadForm,
     /// An allocation failed.
     NoMemory,
 }
 
-/// The event that a line asks for.
+/// The event that a line requests.
 pub(crate) fn make<'a>(alloc: Global, line: &'a [u8]) -> Result<Made<'a>, EventFault>
     ensures made { IfOk result (Comes (event_of_line line.now)) }
     ensures bad { IsErrOf result EventFault.BadForm → event_of_line line.now ≡ None }
@@ -43,8 +44,8 @@ pub(crate) fn make<'a>(alloc: Global, line: &'a [u8]) -> Result<Made<'a>, EventF
 }
 
 fn make_of<'a>(alloc: Global, line: EventLine<'a>) -> Result<Made<'a>, EventFault>
-    ensures made { IfOk result (Comes (seen line.entry)) }
-    ensures bad { IsErrOf result EventFault.BadForm → seen line.entry ≡ None }
+    ensures made { IfOk result (Comes (asked_by_event line.entry)) }
+    ensures bad { IsErrOf result EventFault.BadForm → asked_by_event line.entry ≡ None }
 {
     match line {
         EventLine::Loader(name) => Ok(Made::Runs(Event::Accept(Command::AddLoader(name)))),

@@ -13,7 +13,7 @@ fn push_digit(number: u64, byte: u8) -> Option<u64>
     }
 }
 
-/// The number that a word spells by decimal digits alone, if it fits 64 bits.
+/// The number that a word spells in decimal digits only, if it fits 64 bits.
 pub(crate) fn number_in(word: &[u8]) -> Option<u64>
     ensures { result ≡ number_in word.now }
 {

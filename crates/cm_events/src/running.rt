@@ -2,7 +2,7 @@
 
 ghost use Rattle.std.specs.Prelude.{◌≡◌, IfOk, IfErr};
 ghost use Rattle.cm_disk.specs.Sim.{sim_contents};
-ghost use Rattle.cm_events.specs.Simulated.{IsSimulated, IsStopped};
+ghost use Rattle.cm_events.specs.Simulated.{IsSimulated, SimulationStops};
 
 use crate::fault::SimulationFault;
 use crate::simulation::{Simulation, read_simulation};
@@ -13,10 +13,10 @@ use cm_world::World;
 use std::alloc::{AllocError, Global};
 use thiserror::Error;
 
-/// What a simulation came to.
+/// The result of a simulation.
 #[derive(Drop)]
 pub struct Simulated {
-    /// A line for each of its lines but the first.
+    /// One line for each of its lines except the first.
     pub text: Vec<u8>,
     /// The disk that is left.
     pub disk: SimDisk,
@@ -25,7 +25,7 @@ pub struct Simulated {
 /// Why a simulation isn't run to its end.
 #[derive(Clone, Copy, Debug, PartialEq, Eq, Error)]
 pub enum SimulateFault {
-    /// Its text isn't read.
+    /// Its text can't be read.
     #[error("{0}")]
     Text(SimulationFault),
     /// The disk in memory, or another allocation, failed while a file was made or opened.
@@ -39,7 +39,7 @@ pub enum SimulateFault {
 /// Runs the events of a text over a new file in memory.
 pub fn simulate(alloc: Global, text: &[u8]) -> Result<Simulated, SimulateFault>
     ensures done { IfOk result (λ s. IsSimulated text.now s.text.items s.disk) }
-    ensures stopped { IfErr result (IsStopped text.now) }
+    ensures stopped { IfErr result (SimulationStops text.now) }
 {
     let simulation = match read_simulation(alloc, text) {
         Ok(simulation) => simulation,
@@ -61,7 +61,7 @@ pub fn simulate(alloc: Global, text: &[u8]) -> Result<Simulated, SimulateFault>
     }
 }
 
-/// Why the bytes of a disk in memory aren't had: an allocation failed.
+/// Why the bytes of a disk in memory can't be returned: an allocation failed.
 #[derive(Clone, Copy, Debug, PartialEq, Eq, Error)]
 #[error("out of memory")]
 pub struct NoBytes;

@@ -2,15 +2,15 @@
 
 ghost use Rattle.std.specs.Prelude.{◌≡◌, ◌<◌, ◌+◌, ◌^◌, ℕ, Some, IfOk, IfErr, length};
 ghost use Rattle.cm_lines.specs.Lines.{lines_of};
-ghost use Rattle.cm_events.specs.Made.{IsSimulation, IsFault, first_bad_from, AreOf};
+ghost use Rattle.cm_events.specs.Made.{IsSimulation, IsLineFault, first_bad_from, AreOf};
 ghost use Rattle.cm_events.specs.declared.fault.SimulationFault.TheVariants as fault;
 
 use crate::fault::SimulationFault;
 use crate::geometry::geometry_of;
 use crate::lines::next_line;
 use crate::made::{EventFault, Made, make};
+use cm_commands::Refusal;
 use cm_pool::Geometry;
-use cm_prepare::Refusal;
 use cm_world::Event;
 use std::alloc::{AllocError, Global};
 
@@ -23,25 +23,25 @@ pub enum Turn {
     Refused(Refusal),
 }
 
-/// What the lines of a simulation ask for.
+/// What the lines of a simulation request.
 #[derive(Drop)]
 pub struct Simulation<'a> {
     /// The sizes of the file.
     pub geometry: Geometry,
     /// The events, in order.
     pub events: Vec<Event<'a>>,
-    /// What becomes of each line after the first.
+    /// The result of each line after the first.
     pub turns: Vec<Turn>,
 }
 
 /// Reads the first line for the sizes and the others for the events.
 ///
-/// `BadLine` names the first line of another form than it must have; a text without a line lacks
-/// the first. `NoMemory` if an allocation failed, but for a class's own: such a line is
+/// `BadLine` names the first line that doesn't have the required form; a text without a line lacks
+/// the first one. `NoMemory` if an allocation failed, other than one for a class: such a line is
 /// refused.
 pub fn read_simulation<'a>(alloc: Global, text: &'a [u8]) -> Result<Simulation<'a>, SimulationFault>
     ensures read { IfOk result (IsSimulation (lines_of text.now)) }
-    ensures bad { IfErr result (IsFault (lines_of text.now)) }
+    ensures bad { IfErr result (IsLineFault (lines_of text.now)) }
 {
     let Some((first, rest)) = next_line(text) else {
         return Err(SimulationFault::BadLine(1));
@@ -85,11 +85,11 @@ fn read_events<'a>(
 impl<'a> Simulation<'a> {
     ghost use Rattle.std.specs.Prelude.{◌++◌, ◌∷◌, [], None, OnOk, IsErrOf};
     ghost use Rattle.cm_events.specs.Asked.{event_of_line};
-    ghost use Rattle.cm_events.specs.Made.{Takes, event_in, turn_of};
+    ghost use Rattle.cm_events.specs.Made.{TakesLine, event_in, turn_of};
 
-    /// Adds what a line asks for.
+    /// Adds a line's request.
     fn take_line(&mut self, alloc: Global, line: &'a [u8]) -> Result<(), EventFault>
-        ensures taken { OnOk result (Takes line.now self.old self.new) }
+        ensures taken { OnOk result (TakesLine line.now self.old self.new) }
         ensures bad { IsErrOf result EventFault.BadForm → event_of_line line.now ≡ None }
         ensures geometry { self.new.geometry ≡ self.old.geometry }
     {

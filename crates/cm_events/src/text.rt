@@ -1,4 +1,4 @@
-//! The lines that answer those of a simulation.
+//! The lines that are the replies to those of a simulation.
 
 ghost use Rattle.std.specs.Prelude.{◌≡◌, ◌++◌, ◌∷◌, List, IfOk, OnOk};
 ghost use Rattle.std.specs.Option.{option_map};
@@ -8,15 +8,15 @@ ghost use Rattle.cm_events.specs.Texts.{numbered, refused_text, group_text, clas
 ghost use Rattle.cm_events.specs.Texts.{reply_text, with_newline, answers, answers_behind};
 
 use crate::simulation::Turn;
-use cm_prepare::Refusal;
+use cm_commands::Refusal;
 use cm_record::Record;
 use cm_session::Sealed;
 use cm_world::Reply;
 use std::alloc::{AllocError, Global};
 use std::sync::Arc;
 
-/// The lines that answer those after a simulation's first, if these are the replies to its
-/// events: one for each line, as far as there are replies.
+/// The lines that are the replies to those after a simulation's first, if these are the replies to
+/// its events: one for each line, as long as there are replies.
 pub fn answer_lines(alloc: Global, turns: &[Turn], replies: &[Reply]) -> Result<Vec<u8>, AllocError>
     ensures { IfOk result (λ text. text.items ≡ answers turns.now replies.now) }
 {
@@ -31,7 +31,7 @@ pub fn answer_lines(alloc: Global, turns: &[Turn], replies: &[Reply]) -> Result<
     Ok(text)
 }
 
-/// Adds the line of one turn, and answers which replies are left; `None` if there was none for
+/// Appends the line of one turn, and returns which replies are left; `None` if there was none for
 /// it.
 fn push_turn<'a>(
     alloc: Global,

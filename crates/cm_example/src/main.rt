@@ -29,7 +29,7 @@ struct Part<K: Naming> {
     pass: Pass<K>,
 }
 
-/// What came of it: how many words the class's record has, 0 if it isn't there.
+/// The result of this: how many words the class's record has, 0 if it isn't there.
 #[derive(Drop)]
 struct Done<K: Naming> {
     words: u32,
@@ -97,7 +97,7 @@ where
     Ok(())
 }
 
-/// Has two threads work, and gives their passes back.
+/// Has two threads work, and returns their passes.
 fn work_in_threads<K, R>(rt: &R, alloc: Global, cache: &Cache<K>) -> Result<Vec<Pass<K>>>
 where
     K: Naming + Send + Sync + 'static,

@@ -1,5 +1,5 @@
--- A state that follows on each call: of a failed one, that it changed nothing.
--- For `Course::note`, `FileDisk::of_file`, `FileDisk::held`.
+-- A state that follows from each call; after a failed call, that it changed nothing.
+-- For `History::note`, `FileDisk::of_file`, `FileDisk::held`.
 use Rattle.std.proofs.Common.{◌≡◌, ◌≤◌, ◌+◌, ◌-◌, ◌++◌, ◌∙◌, ℕ, List, length, refl, take, drop}
 use Rattle.std.proofs.Common.{arith, length-append, length-drop, ap, sym}
 use Rattle.std.specs.Prelude.{replicate}
@@ -11,11 +11,11 @@ use Rattle.std.proofs.Math.Seq.{take-append_seam}
 use Rattle.cm_disk.specs.Calls.{overwritten}
 use Rattle.cm_disk.specs.Disk.{IsBytes}
 use Rattle.cm_disk.proofs.{untouched_torn, uncut}
-use Rattle.cm_file_disk.specs.declared.course.Call.{Call}
-use Rattle.cm_file_disk.specs.declared.course.Call.TheVariants.{Opened, Wrote, NotWritten, Cut}
-use Rattle.cm_file_disk.specs.declared.course.Call.TheVariants.{NotCut, Synced, Failed}
+use Rattle.cm_file_disk.specs.declared.history.Call.{Call}
+use Rattle.cm_file_disk.specs.declared.history.Call.TheVariants.{Opened, Wrote, NotWritten, Cut}
+use Rattle.cm_file_disk.specs.declared.history.Call.TheVariants.{NotCut, Synced, Failed}
 use Rattle.cm_file_disk.specs.State.{FileState}
-use Rattle.cm_file_disk.specs.Calls.{IsOpenedAs, Follows, after}
+use Rattle.cm_file_disk.specs.Calls.{IsOpenedAs, CallFollows, after}
 
 -- these bytes, and zeros up to a length
 abbrev filled : ℕ → List ℕ → List ℕ
@@ -41,7 +41,7 @@ filled_bytes len bytes are i lt =
       length-replicate,
     )
 
--- what begins so is this and the rest
+-- contents that begin with these bytes are the bytes followed by others
 pub begun : (bytes contents : List ℕ) → take (length bytes) contents ≡ bytes
     → bytes ++ drop (length bytes) contents ≡ contents
 begun bytes contents e =
@@ -68,7 +68,7 @@ next Synced bytes old = after Synced bytes old.now.bytes old
 next Failed bytes old = after Failed bytes old.now.bytes old
 
 pub follows : (call : Call) (bytes : List ℕ) (old : FileState)
-    → Follows call bytes old (next call bytes old)
+    → CallFollows call bytes old (next call bytes old)
 follows (Opened len) bytes old = record {
   left = (filled_begins len bytes, filled_bytes len bytes);
   state = refl;

@@ -1,4 +1,4 @@
--- Time goes on over a noted call as the disk model says.
+-- Time passes over a recorded call as the disk model says.
 -- For `Disk::sync`, `Disk::write_at`, `FileDiskDisk::cut`.
 use Rattle.std.proofs.Common.{◌≡◌, ◌≤◌, ◌+◌, ℕ, List, [], ◌∷◌, length, take, ap, sym, ◌∙◌}
 use Rattle.std.proofs.Common.{subst, refl, arith}
@@ -8,21 +8,21 @@ use Rattle.cm_disk.specs.Calls.{IsTorn, IsCut, Elapses}
 use Rattle.cm_disk.specs.Moments.{Moment, LeftSince}
 use Rattle.cm_disk.proofs.{elapses_write, elapses_cut, elapses_sync, wider, narrow}
 use Rattle.cm_disk.proofs.{overwritten_torn}
-use Rattle.cm_file_disk.specs.declared.course.Call.{Call}
-use Rattle.cm_file_disk.specs.declared.course.Call.TheVariants.{Wrote, NotWritten, Cut, NotCut}
-use Rattle.cm_file_disk.specs.declared.course.Call.TheVariants.{Synced}
+use Rattle.cm_file_disk.specs.declared.history.Call.{Call}
+use Rattle.cm_file_disk.specs.declared.history.Call.TheVariants.{Wrote, NotWritten, Cut, NotCut}
+use Rattle.cm_file_disk.specs.declared.history.Call.TheVariants.{Synced}
 use Rattle.cm_file_disk.specs.State.{FileState, moment_unsynced, IsSoundState, opened, lowered}
 use Rattle.cm_file_disk.specs.State.{stored}
-use Rattle.cm_file_disk.specs.Calls.{Leaves, Follows, after, gone}
+use Rattle.cm_file_disk.specs.Calls.{CallLeaves, CallFollows, after, gone}
 
--- time goes on from a state to the next; `most` is what may be unsynced during the call
+-- time passes from a state to the next; `most` is what may be unsynced during the call
 abbrev pub Passes : Unsynced → FileState → FileState → Type 0
 Passes most old new =
     Elapses (length old.moments) (length new.moments)
     (LeftSince old.now.bytes (moment_unsynced old.now) old.moments)
     (LeftSince new.now.bytes (moment_unsynced new.now) new.moments) (IsImage old.now.bytes most)
 
--- no more is open than the write's range besides
+-- nothing else is open in addition but the write's range
 opened_within : (at n : ℕ) (now : Moment)
     → IsWithin (widened at n (moment_unsynced now)) (moment_unsynced (opened at n now))
 opened_within at n now =
@@ -74,16 +74,16 @@ passes_sync old left sound e =
       greatest = omega (arith, sound.greatest, size);
     })
 
--- a fact of each state that may come after a call holds of the one that came
+-- what holds for each state that may follow a call holds for the one that did
 carried : (P : FileState → Type 0) (call : Call) (bytes : List ℕ) (old new : FileState)
-    → Follows call bytes old new
-    → ((left : List ℕ) → Leaves call bytes old.now.bytes left → P (after call bytes left old))
+    → CallFollows call bytes old new
+    → ((left : List ℕ) → CallLeaves call bytes old.now.bytes left → P (after call bytes left old))
     → P new
 carried P call bytes old new follows each =
     subst P (sym follows.state) (each new.now.bytes follows.left)
 
 pub wrote : (at : ℕ) (bytes : List ℕ) (old new : FileState) → at ≤ length old.now.bytes
-    → Follows (Wrote at) bytes old new
+    → CallFollows (Wrote at) bytes old new
     → Passes (widened at (length bytes) (moment_unsynced old.now)) old new
 wrote at bytes old new le follows =
     carried (Passes (widened at (length bytes) (moment_unsynced old.now)) old) (Wrote at) bytes old
@@ -92,7 +92,7 @@ wrote at bytes old new le follows =
     (overwritten_torn at bytes old.now.bytes left le e))
 
 pub not_written : (at : ℕ) (bytes : List ℕ) (old new : FileState)
-    → Follows (NotWritten at) bytes old new
+    → CallFollows (NotWritten at) bytes old new
     → Passes (widened at (length bytes) (moment_unsynced old.now)) old new
 not_written at bytes old new follows =
     carried (Passes (widened at (length bytes) (moment_unsynced old.now)) old) (NotWritten at) bytes
@@ -100,7 +100,7 @@ not_written at bytes old new follows =
     (λ left torn. passes_write at (length bytes) (old.failures + 1) old left torn.0)
 
 pub wrote_within : (at : ℕ) (bytes : List ℕ) (old new : FileState)
-    → Follows (Wrote at) bytes old new
+    → CallFollows (Wrote at) bytes old new
     → IsWithin (widened at (length bytes) (moment_unsynced old.now)) (moment_unsynced new.now)
 wrote_within at bytes old new follows =
     carried (λ (s : FileState). IsWithin (widened at (length bytes) (moment_unsynced old.now))
@@ -108,7 +108,7 @@ wrote_within at bytes old new follows =
     (λ left e. opened_within at (length bytes) old.now)
 
 pub not_written_within : (at : ℕ) (bytes : List ℕ) (old new : FileState)
-    → Follows (NotWritten at) bytes old new
+    → CallFollows (NotWritten at) bytes old new
     → IsWithin (widened at (length bytes) (moment_unsynced old.now)) (moment_unsynced new.now)
 not_written_within at bytes old new follows =
     carried (λ (s : FileState). IsWithin (widened at (length bytes) (moment_unsynced old.now))
@@ -116,18 +116,18 @@ not_written_within at bytes old new follows =
     (λ left torn. opened_within at (length bytes) old.now)
 
 pub was_cut : (len : ℕ) (old new : FileState) → len ≤ length old.now.bytes
-    → Follows (Cut len) [] old new → Passes (shortened len (moment_unsynced old.now)) old new
+    → CallFollows (Cut len) [] old new → Passes (shortened len (moment_unsynced old.now)) old new
 was_cut len old new le follows =
     carried (Passes (shortened len (moment_unsynced old.now)) old) (Cut len) [] old new follows
     (λ left e. passes_cut len old.failures old left (taken_is_cut len old.now.bytes left le e))
 
 pub not_cut : (len : ℕ) (old new : FileState) → len ≤ length old.now.bytes
-    → Follows (NotCut len) [] old new → Passes (shortened len (moment_unsynced old.now)) old new
+    → CallFollows (NotCut len) [] old new → Passes (shortened len (moment_unsynced old.now)) old new
 not_cut len old new le follows =
     carried (Passes (shortened len (moment_unsynced old.now)) old) (NotCut len) [] old new follows
     (λ left cut. passes_cut len (old.failures + 1) old left (cut le))
 
-pub synced : (old new : FileState) → IsSoundState old → Follows Synced [] old new
+pub synced : (old new : FileState) → IsSoundState old → CallFollows Synced [] old new
     → Passes (moment_unsynced old.now) old new
 synced old new sound follows =
     carried (Passes (moment_unsynced old.now) old) Synced [] old new follows

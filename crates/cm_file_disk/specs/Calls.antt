@@ -1,11 +1,11 @@
--- What a call on a file makes of the state of its disk.
+-- How a call on a file changes the state of its disk.
 use Rattle.std.specs.Prelude.{◌≡◌, ◌≤◌, ◌+◌, ℕ, List, ◌∷◌, length, take}
 use Rattle.cm_disk.specs.Disk.{IsBytes}
 use Rattle.cm_disk.specs.Calls.{overwritten, IsTorn, IsCut}
 use Rattle.cm_disk.specs.Moments.{Moment}
-use Rattle.cm_file_disk.specs.declared.course.Call.{Call}
-use Rattle.cm_file_disk.specs.declared.course.Call.TheVariants.{Opened, Wrote, NotWritten, Cut}
-use Rattle.cm_file_disk.specs.declared.course.Call.TheVariants.{NotCut, Synced, Failed}
+use Rattle.cm_file_disk.specs.declared.history.Call.{Call}
+use Rattle.cm_file_disk.specs.declared.history.Call.TheVariants.{Opened, Wrote, NotWritten, Cut}
+use Rattle.cm_file_disk.specs.declared.history.Call.TheVariants.{NotCut, Synced, Failed}
 use Rattle.cm_file_disk.specs.State.{FileState, opened_state, stored, opened, lowered}
 
 -- a file had this length when it was opened, and began with these bytes
@@ -13,20 +13,20 @@ pub record IsOpenedAs (len : ℕ) (beginning contents : List ℕ) : Type 0 where
   pub begins : take (length beginning) contents ≡ beginning
   pub length_is : length contents ≡ len
 
--- The bytes that a call leaves of the old ones. Of a file that is opened the first ones are known;
--- those of a failed write or cut aren't.
-abbrev pub Leaves : Call → List ℕ → List ℕ → List ℕ → Type 0
-Leaves (Opened len) bytes old left =
+-- The bytes that a call leaves, given the old ones. Of an opened file only the first bytes are
+-- known; after a failed write or cut the bytes are not known.
+abbrev pub CallLeaves : Call → List ℕ → List ℕ → List ℕ → Type 0
+CallLeaves (Opened len) bytes old left =
     (length bytes ≤ len → IsOpenedAs len bytes left) × (IsBytes bytes → IsBytes left)
-Leaves (Wrote at) bytes old left = left ≡ overwritten at bytes old
-Leaves (NotWritten at) bytes old left =
+CallLeaves (Wrote at) bytes old left = left ≡ overwritten at bytes old
+CallLeaves (NotWritten at) bytes old left =
     IsTorn at (length bytes) old left × (IsBytes old → IsBytes left)
-Leaves (Cut len) bytes old left = left ≡ take len old
-Leaves (NotCut len) bytes old left = len ≤ length old → IsCut len old left
-Leaves Synced bytes old left = left ≡ old
-Leaves Failed bytes old left = left ≡ old
+CallLeaves (Cut len) bytes old left = left ≡ take len old
+CallLeaves (NotCut len) bytes old left = len ≤ length old → IsCut len old left
+CallLeaves Synced bytes old left = left ≡ old
+CallLeaves Failed bytes old left = left ≡ old
 
--- it went through a moment, at which a crash may have left it, to other bytes
+-- the file went through a moment, at which a crash may have left it, to other bytes
 abbrev pub gone : Moment → List ℕ → FileState → FileState
 gone during left old = record {
   now = record during { bytes = left };
@@ -46,7 +46,7 @@ after (NotCut len) bytes left old =
 after Synced bytes left old = record (gone old.now left old) { now = stored left }
 after Failed bytes left old = record old { failures = old.failures + 1 }
 
--- a call goes over from a state to the next
-pub record Follows (call : Call) (bytes : List ℕ) (old new : FileState) : Type 0 where
-  pub left : Leaves call bytes old.now.bytes new.now.bytes
+-- a call leads from a state to the next
+pub record CallFollows (call : Call) (bytes : List ℕ) (old new : FileState) : Type 0 where
+  pub left : CallLeaves call bytes old.now.bytes new.now.bytes
   pub state : new ≡ after call bytes new.now.bytes old

@@ -5,7 +5,7 @@ use Rattle.std.specs.Prelude.{Option, is_some, not, ◌&&◌, take, if◌then◌
 use Rattle.std.specs.declared.io.Error.{Error}
 use Rattle.cm_disk.specs.Calls.{DiskCall}
 use Rattle.cm_disk.specs.Calls.DiskCall.{Len, Read, Write, Cut, Sync}
-use Rattle.cm_disk.specs.Disk.{View, Unsynced, IsSettled}
+use Rattle.cm_disk.specs.Disk.{View, Unsynced, IsDurable}
 use Rattle.cm_disk.specs.Moments.{LeftSince}
 use Rattle.cm_file_disk.specs.declared.disk.FileDisk.{FileDisk}
 use Rattle.cm_file_disk.specs.declared.opening.OpenedFile.{OpenedFile}
@@ -13,7 +13,7 @@ use Rattle.cm_file_disk.specs.State.{FileState, moment_unsynced}
 use Rattle.cm_file_disk.specs.Image.{image_holds, image_cause}
 
 abbrev pub file_state : FileDisk → FileState
-file_state disk = disk.course.state
+file_state disk = disk.history.state
 
 abbrev pub file_contents : FileDisk → List ℕ
 file_contents disk = (file_state disk).now.bytes
@@ -41,7 +41,7 @@ file_view = record {
   left_since = file_left_since;
 }
 
--- its first n bytes are still held, as they were read: nothing was written or cut since
+-- the first n bytes of the disk are still held, as they were read: nothing was written or cut since
 abbrev pub holds : FileDisk → ℕ → Bool
 holds disk n = image_holds disk.image n
 
@@ -49,21 +49,21 @@ holds disk n = image_holds disk.image n
 abbrev pub file_cause : FileDisk → Option Error
 file_cause disk = image_cause disk.image
 
--- such a call has failed
+-- a write, cut or sync has failed
 abbrev pub is_lost : FileDisk → Bool
 is_lost disk = is_some (file_cause disk)
 
--- It was created just now: it has no bytes, and that is stored.
-pub record IsNew (disk : FileDisk) : Type 0 where
+-- The disk was just created: it has no bytes, and that is durable.
+pub record IsCreatedFile (disk : FileDisk) : Type 0 where
   pub contents : file_contents disk ≡ []
-  pub settled : IsSettled [] (file_unsynced disk)
+  pub durable : IsDurable [] (file_unsynced disk)
   pub held : holds disk 0 ≡ true
   pub failures : file_failures disk ≡ 0
   pub moment : file_moment disk ≡ 0
 
--- It was opened just now, and begins as its file did. Its bytes are held up to `reach`, and no more
--- but for that beginning; none of them is known to be stored.
-pub record IsOpened (file : OpenedFile) (reach : ℕ) (disk : FileDisk) : Type 0 where
+-- The disk was just opened, and begins as its file did. Its bytes are held up to `reach`, or to the
+-- end of the file's known beginning, and no further; none of them is known to be durable.
+pub record IsOpenedFile (file : OpenedFile) (reach : ℕ) (disk : FileDisk) : Type 0 where
   pub length_is : length (file_contents disk) ≡ file.len
   pub begins : take (length file.beginning.items) (file_contents disk) ≡ file.beginning.items
   pub held : holds disk (min reach file.len) ≡ true
@@ -74,15 +74,15 @@ pub record IsOpened (file : OpenedFile) (reach : ℕ) (disk : FileDisk) : Type 0
   pub failures : file_failures disk ≡ 0
   pub moment : file_moment disk ≡ 0
 
--- A call that asks something: it fails exactly if this isn't known any more, and changes
+-- A call that only queries something: it fails exactly if that is no longer known, and changes
 -- nothing.
 pub record OnlyAsks (is_known : Bool) (old new : FileDisk) (ok : Bool) : Type 0 where
   pub exactly : ok ≡ is_known
   pub held : (n : ℕ) → holds new n ≡ holds old n
   pub cause : file_cause new ≡ file_cause old
 
--- A call that changes the file or stores it. Once one such call has failed, each fails and changes
--- nothing, and the first cause stays.
+-- A call that changes the file or makes it durable. Once such a call has failed, each further one
+-- fails and changes nothing, and the first cause is kept.
 pub record Changes (old new : FileDisk) (ok : Bool) : Type 0 where
   pub fails : is_lost old ≡ true → ok ≡ false
   pub contents : is_lost old ≡ true → file_contents new ≡ file_contents old
@@ -90,17 +90,17 @@ pub record Changes (old new : FileDisk) (ok : Bool) : Type 0 where
   pub cause : is_lost old ≡ true → file_cause new ≡ file_cause old
   pub lost : is_lost new ≡ not ok
 
--- A write or a cut: none of the bytes is held any more.
+-- A write or a cut: none of the bytes is held any longer.
 pub record GivesUp (old new : FileDisk) (ok : Bool) : Type 0 where
   pub changes : Changes old new ok
   pub given_up : (n : ℕ) → holds new n ≡ false
 
--- A sync: they are held on, unless it fails.
+-- A sync: the bytes are still held, unless it fails.
 pub record Syncs (old new : FileDisk) (ok : Bool) : Type 0 where
   pub changes : Changes old new ok
   pub held : (n : ℕ) → holds new n ≡ (holds old n && ok)
 
--- what this call does besides
+-- what a certain call does in addition
 abbrev pub file_made : DiskCall → FileDisk → FileDisk → Bool → Type 0
 file_made Len old new ok = OnlyAsks (not (is_lost old)) old new ok
 file_made (Read at n) old new ok = OnlyAsks (holds old (at + n)) old new ok
@@ -109,7 +109,7 @@ file_made (Cut len) old new ok = GivesUp old new ok
 file_made Sync old new ok = Syncs old new ok
 
 -- One call. If it fails, that counts as one failure. Once a write, a cut or a sync has failed, each
--- call fails, and the first cause stays.
+-- call fails, and the first cause is kept.
 pub record IsFileCall (old new : FileDisk) (ok : Bool) : Type 0 where
   pub counted : file_failures new ≡ file_failures old + (if ok then 0 else 1)
   pub fails : is_lost old ≡ true → ok ≡ false

@@ -3,7 +3,8 @@ use Rattle.std.specs.Prelude.{◌+◌, ◌^◌, ℕ, List, [], ◌∷◌, ◌++�
 use Rattle.cm_disk.specs.Disk.{Unsynced, IsSound}
 use Rattle.cm_disk.specs.Moments.{Moment, unsynced_of}
 
--- what it holds, the moments that it has had, the newest first, and how often the device has failed
+-- what the disk holds, the moments that it has had, the newest first, and how often the device has
+-- failed
 pub record FileState : Type 0 where
   pub now : Moment
   pub moments : List Moment
@@ -15,7 +16,7 @@ moment_unsynced moment = unsynced_of moment.ranges moment.least moment.greatest
 abbrev pub IsSoundState : FileState → Type 0
 IsSoundState state = IsSound state.now.bytes (moment_unsynced state.now)
 
--- all of it is stored
+-- all bytes are durable
 abbrev pub stored : List ℕ → Moment
 stored bytes = record {
   bytes = bytes;
@@ -24,7 +25,7 @@ stored bytes = record {
   greatest = length bytes;
 }
 
--- none of it is known to be stored
+-- none of the bytes is known to be durable
 abbrev pub unsure : List ℕ → Moment
 unsure bytes = record {
   bytes = bytes;

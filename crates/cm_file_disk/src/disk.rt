@@ -6,8 +6,8 @@ ghost use Rattle.cm_disk.specs.Moments.{none_since_now};
 ghost use Rattle.cm_file_disk.specs.Image.{image_bytes, image_length};
 ghost use Rattle.cm_file_disk.specs.State.{IsSoundState};
 
-use crate::course::{Call, Course};
 use crate::fault::{CreateError, OpenError};
+use crate::history::{Call, History};
 use crate::image::Image;
 use crate::opening::{OpenedFile, create_file};
 use cm_disk::{DeviceFault, Disk};
@@ -16,30 +16,30 @@ use std::fs::{File, Files};
 use std::io;
 use std::os::unix::fs::FileExt;
 
-/// One write goes to the file in pieces of this many bytes: after a long one every small sync takes
-/// longer on some file systems.
+/// A write goes to the file in pieces of this many bytes: on some file systems, every small sync
+/// takes longer after a long write.
 const PIECE: usize = 65536;
 
 /// A disk over a regular file that nothing else writes to.
 ///
-/// Its first bytes are read once, when it is opened, as many as are asked for then; reads of them
-/// are answered from memory, each other read fails. Writes and cuts go to the file. With the first
-/// of these the memory is given back, and from then on each read fails.
-/// After a write, a cut or a sync that failed every call fails, since the system may answer the
-/// next sync though bytes are lost. What the file holds follows the disk's contents as far as the
-/// system keeps its word.
+/// Its first bytes are read once, when it is opened, as many as are requested then. Reads of these
+/// are served from memory; every other read fails. Writes and cuts go to the file. The first of
+/// these frees the memory, and from then on every read fails.
+/// After a failed write, cut or sync every call fails, since the system may report the next sync as
+/// successful although bytes are lost. What the file holds follows the disk's contents as far as
+/// the system keeps its promises.
 #[derive(Drop)]
 pub struct FileDisk {
     file: File,
     image: Image,
-    course: Course,
-    ghost sound: { IsSoundState course.state },
-    ghost bytes_known: { image_bytes image course.state.now.bytes ≡ course.state.now.bytes },
-    ghost length_known: { image_length image (length course.state.now.bytes)
-        ≡ length course.state.now.bytes },
+    history: History,
+    ghost sound: { IsSoundState history.state },
+    ghost bytes_known: { image_bytes image history.state.now.bytes ≡ history.state.now.bytes },
+    ghost length_known: { image_length image (length history.state.now.bytes)
+        ≡ length history.state.now.bytes },
 }
 
-/// Writes in pieces.
+/// Writes the bytes in pieces.
 fn write_pieces(file: &File, at: u64, bytes: &[u8]) -> io::Result<()>
     requires { at + length bytes.now ≤ 2 ^ 40 }
 {
@@ -56,49 +56,49 @@ fn write_pieces(file: &File, at: u64, bytes: &[u8]) -> io::Result<()>
 
 impl FileDisk {
     ghost use Rattle.cm_file_disk.specs.File.{file_contents, is_lost, file_cause, holds};
-    ghost use Rattle.cm_file_disk.specs.File.{IsOpened, IsNew};
+    ghost use Rattle.cm_file_disk.specs.File.{IsOpenedFile, IsCreatedFile};
 
     /// The disk of a file that was opened, with its first `reach` bytes, or all if it has fewer.
-    /// None of its bytes is known to be stored before the first sync.
+    /// None of its bytes is known to be durable before the first sync.
     ///
     /// # Errors
-    /// [`OpenError::NoMemory`] if the bytes find no room, [`OpenError::Device`] if the system
-    /// doesn't read them. The file stays as it was.
+    /// [`OpenError::NoMemory`] if memory for the bytes can't be allocated, [`OpenError::Device`] if
+    /// the system doesn't read them. The file is unchanged.
     #[tactic(auto, using(crate::proofs::Followed::begun))]
     pub fn of_file(opened: OpenedFile, reach: u64) -> Result<FileDisk, OpenError>
-        ensures { IfOk result (IsOpened opened reach) }
+        ensures { IfOk result (IsOpenedFile opened reach) }
     {
         let len = opened.len();
         let read = opened.read_on(reach)?;
-        let course = Course::of_opened(len, &read.beginning);
+        let history = History::of_opened(len, &read.beginning);
         Ok(FileDisk {
             file: read.file,
             image: Image::Beginning(read.beginning, len),
-            course,
+            history,
         })
     }
 
-    /// Creates a file of no bytes if nothing has that name. It and its name in the folder are
-    /// stored for good. Where that fails, what was created is removed, if the system lets it.
+    /// Creates a file of no bytes if nothing has that name. The file and its name in the folder are
+    /// made durable. If that fails, what was created is removed, if the system permits it.
     ///
     /// # Errors
-    /// [`CreateError::Exists`] where something has that name; else the system's error.
+    /// [`CreateError::Exists`] if something has that name; else the system's error.
     pub fn create(
         rt: &impl Files<File = File>,
         alloc: Global,
         path: &str,
     ) -> Result<FileDisk, CreateError>
-        ensures { IfOk result IsNew }
+        ensures { IfOk result IsCreatedFile }
     {
         let file = create_file(rt, path)?;
         Ok(FileDisk {
             file,
             image: Image::Beginning(Vec::new(alloc), 0),
-            course: Course::new(),
+            history: History::new(),
         })
     }
 
-    /// Why the first write, cut or sync that failed did so. `None`: none has failed.
+    /// Why the first write, cut or sync that failed did so; `None` if none has failed.
     pub fn cause(&self) -> Option<io::Error>
         ensures { result ≡ file_cause self.now }
     {
@@ -119,7 +119,7 @@ impl FileDisk {
         }
     }
 
-    /// So many bytes from that place on, if they are held.
+    /// `count` bytes from a place on, if they are held.
     #[tactic(auto, using(crate::proofs::Followed::part_of_beginning))]
     fn held(&self, at: u64, count: usize) -> Option<&[u8]>
         requires { at + count ≤ length (file_contents self.now) }
@@ -136,12 +136,12 @@ impl FileDisk {
 
     /// A call that fails and changes nothing.
     fn refuse(&mut self) -> DeviceFault
-        ensures state { self.new.course.state ≡ record self.old.course.state {
-          failures = self.old.course.state.failures + 1;
+        ensures state { self.new.history.state ≡ record self.old.history.state {
+          failures = self.old.history.state.failures + 1;
         } }
         ensures image { self.new.image ≡ self.old.image }
     {
-        self.course.note(&Call::Failed, &[]);
+        self.history.note(&Call::Failed, &[]);
         DeviceFault
     }
 }
@@ -159,7 +159,7 @@ impl Disk for FileDisk {
 
     ghost counts_now = { λ d t image le now. inl now };
 
-    ghost only_now = { λ d image left. none_since_now d.course.state.moments image left };
+    ghost only_now = { λ d image left. none_since_now d.history.state.moments image left };
 
     fn len(&mut self) -> Result<u64, DeviceFault> {
         match self.known_len() {
@@ -182,12 +182,12 @@ impl Disk for FileDisk {
         };
         match write_pieces(&self.file, at, bytes) {
             Ok(()) => {
-                self.course.note(&Call::Wrote(at), bytes);
+                self.history.note(&Call::Wrote(at), bytes);
                 self.image = Image::Length(len.max(at + bytes.len() as u64));
                 Ok(())
             }
             Err(cause) => {
-                self.course.note(&Call::NotWritten(at), bytes);
+                self.history.note(&Call::NotWritten(at), bytes);
                 self.image = Image::Lost(cause);
                 Err(DeviceFault)
             }
@@ -200,12 +200,12 @@ impl Disk for FileDisk {
         }
         match self.file.set_len(len) {
             Ok(()) => {
-                self.course.note(&Call::Cut(len), &[]);
+                self.history.note(&Call::Cut(len), &[]);
                 self.image = Image::Length(len);
                 Ok(())
             }
             Err(cause) => {
-                self.course.note(&Call::NotCut(len), &[]);
+                self.history.note(&Call::NotCut(len), &[]);
                 self.image = Image::Lost(cause);
                 Err(DeviceFault)
             }
@@ -219,7 +219,7 @@ impl Disk for FileDisk {
         }
         match self.file.sync_data() {
             Ok(()) => {
-                self.course.note(&Call::Synced, &[]);
+                self.history.note(&Call::Synced, &[]);
                 Ok(())
             }
             Err(cause) => {

@@ -1,4 +1,4 @@
-//! Why a file doesn't become a disk.
+//! Why a file can't be used as a disk.
 
 ghost use Rattle.std.specs.Prelude.{◌≡◌};
 ghost use Rattle.cm_file_disk.specs.declared.fault.OpenError.TheVariants as open_error;
@@ -7,7 +7,7 @@ use std::alloc::AllocError;
 use std::io;
 use thiserror::Error;
 
-/// Why a file isn't opened as a disk. It stays as it was.
+/// Why a file isn't opened as a disk. The file is unchanged.
 #[derive(Clone, Copy, Debug, Error)]
 pub enum OpenError {
     /// It is a folder, a pipe or a device of the system.
@@ -19,7 +19,7 @@ pub enum OpenError {
     /// The system doesn't find, open or read it.
     #[error("{0}")]
     Device(io::Error),
-    /// There is no memory for its bytes.
+    /// An allocation for its bytes failed.
     #[error("out of memory")]
     NoMemory,
 }
@@ -43,10 +43,10 @@ impl From<AllocError> for OpenError {
 /// Why a file isn't created as a disk.
 #[derive(Clone, Copy, Debug, Error)]
 pub enum CreateError {
-    /// Something has that name already, if only a link that leads nowhere. It stays as it was.
+    /// Something has that name already, even if it is a dangling link. It is unchanged.
     #[error("something has that name already")]
     Exists,
-    /// The system doesn't create it, or doesn't store it for good.
+    /// The system doesn't create it, or doesn't make it durable.
     #[error("{0}")]
     Device(io::Error),
 }

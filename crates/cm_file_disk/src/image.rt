@@ -1,12 +1,12 @@
-//! What is still known of a file's bytes.
+//! What is still known about a file's bytes.
 use std::io;
 
 #[derive(Drop)]
 pub enum Image {
-    /// The first of them, as they were read, and the number of all: nothing was written or cut
-    /// since.
+    /// The first of the bytes, as they were read, and the number of all bytes: nothing was written
+    /// or cut since.
     Beginning(Vec<u8>, u64),
-    /// Their number alone.
+    /// The number of bytes alone.
     Length(u64),
     /// Nothing: a write, a cut or a sync has failed, for this cause.
     Lost(io::Error),

@@ -1,9 +1,9 @@
-//! A disk over a real file, which meets the trait of all disks with no premise.
+//! A disk over a real file, which implements the trait of all disks without assumptions.
 #![tactic(auto)]
 
-mod course;
 mod disk;
 mod fault;
+mod history;
 mod image;
 mod opening;
 

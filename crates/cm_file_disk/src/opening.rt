@@ -1,4 +1,4 @@
-//! Files of the system, opened or created to be a disk.
+//! Files of the system, opened or created for use as a disk.
 ghost use Rattle.std.specs.Prelude.{◌≡◌, ◌≢◌, ◌≤◌, ◌<◌, ◌^◌, ◌↔◌, Err, IfOk, length, take, min};
 ghost use Rattle.std.specs.Prelude.{max};
 ghost use Rattle.std.specs.Fs.{metadata_len, file_type, IsFile};
@@ -18,18 +18,18 @@ use std::path::Path;
 /// The most bytes that a disk has.
 const LIMIT: u64 = 1 << 40;
 
-/// Standard error's descriptor: this one and those below it are the standard streams'.
+/// Standard error's descriptor: the standard streams have this one and those below it.
 const STANDARD_ERROR: i32 = 2;
 
-/// How many bytes are read of a file as it is opened.
+/// How many bytes of a file are read when it is opened.
 const BEGINNING: u64 = 4096;
 
-/// A regular file that was opened: its length, and the bytes that it begins with.
+/// A regular file that was opened: its length, and its first bytes.
 #[derive(Drop)]
 pub struct OpenedFile {
     pub(crate) file: File,
     len: u64,
-    /// The first 4,096 bytes, or all if it has fewer; [`OpenedFile::read_on`] makes them more.
+    /// The first 4,096 bytes, or all if it has fewer; [`OpenedFile::read_on`] reads more.
     pub(crate) beginning: Vec<u8>,
     ghost is_within_limit: { len ≤ 2 ^ 40 },
     ghost is_beginning: { length beginning.items ≤ len },
@@ -37,13 +37,13 @@ pub struct OpenedFile {
 
 impl OpenedFile {
     /// Opens a regular file that exists, and reads the first 4,096 bytes of it, or all if it has
-    /// fewer. What is no regular file isn't opened, since to open a pipe may take forever.
+    /// fewer. Anything but a regular file isn't opened, since opening a pipe may block forever.
     ///
     /// # Errors
-    /// What is no regular file isn't opened: [`OpenError::NotRegular`]. [`OpenError::TooLong`]
-    /// if it has more bytes than a disk may have, [`OpenError::NoMemory`] if an allocation
-    /// failed, and [`OpenError::Device`] if the system doesn't find, open or read it. The file
-    /// stays as it was.
+    /// [`OpenError::NotRegular`] if it is no regular file; it isn't opened then.
+    /// [`OpenError::TooLong`] if it has more bytes than a disk may have, [`OpenError::NoMemory`] if
+    /// an allocation failed, and [`OpenError::Device`] if the system doesn't find, open or read it.
+    /// The file is unchanged.
     pub fn open(
         rt: &impl Files<File = File>,
         alloc: Global,
@@ -54,8 +54,8 @@ impl OpenedFile {
         open_file(rt, alloc, path, OpenOptions::new().read(true).write(true))
     }
 
-    /// As [`OpenedFile::open`], but a write or a cut of its disk fails; no right to write to the
-    /// file is needed.
+    /// Like [`OpenedFile::open`], but writes and cuts of its disk fail; no permission to write to
+    /// the file is needed.
     pub fn open_read_only(
         rt: &impl Files<File = File>,
         alloc: Global,
@@ -73,14 +73,14 @@ impl OpenedFile {
         self.len
     }
 
-    /// The bytes that were read of it: the first ones.
+    /// The first bytes of the file, as many as were read.
     pub fn beginning(&self) -> &[u8]
         ensures { result.now ≡ self.now.beginning.items }
     {
         &self.beginning
     }
 
-    /// Reads on, up to this many bytes or the file's end.
+    /// Reads more bytes, up to this many or the file's end.
     pub(crate) fn read_on(self, reach: u64) -> Result<OpenedFile, OpenError>
         ensures len { IfOk result (λ f. f.len ≡ self.len) }
         ensures begins { IfOk result (λ f.
@@ -103,7 +103,7 @@ impl OpenedFile {
     }
 }
 
-/// The length of what is a regular file, and not too long.
+/// The length of a file, if it is regular and not too long.
 fn regular_length(found: &Metadata) -> Result<u64, OpenError>
     ensures ok { IfOk result (λ len. (len ≡ metadata_len found.now) × (len ≤ 2 ^ 40)) }
     ensures not_regular { result ≡ Err open_error.NotRegular ↔ (IsFile (file_type found.now) → ⊥) }
@@ -119,8 +119,8 @@ fn regular_length(found: &Metadata) -> Result<u64, OpenError>
     Ok(found.len())
 }
 
-/// The file by a descriptor above those of the standard streams: what is meant for one that is
-/// closed must not land in the file.
+/// The file with a descriptor above those of the standard streams: what is written to a closed
+/// standard stream must not end up in the file.
 fn above_standard_streams(file: File) -> io::Result<File> {
     if file.as_raw_fd() <= STANDARD_ERROR {
         file.try_clone()
@@ -150,13 +150,13 @@ fn open_file(
     })
 }
 
-/// Creates a file if nothing has that name, and stores it and its name for good.
+/// Creates a file if nothing has that name, and makes it and its name durable.
 pub(crate) fn create_file(rt: &impl Files<File = File>, path: &str) -> Result<File, CreateError> {
     let file = File::create_new(rt, path).map_err(why_not_created)?;
     match store_new(rt, file, path) {
         Ok(file) => Ok(file),
         Err(error) => {
-            // It would stand in the way of the next try.
+            // It would be in the way of the next attempt.
             let _ = fs::remove_file(rt, path);
             Err(CreateError::Device(error))
         }
@@ -181,7 +181,7 @@ fn store_new(rt: &impl Files<File = File>, file: File, path: &str) -> io::Result
     Ok(file)
 }
 
-/// The folder that the path's last name is in.
+/// The folder that contains the path's last name.
 fn folder_of(path: &str) -> &str {
     match Path::new(path).parent().and_then(|folder| folder.to_str()) {
         Some(folder) if !folder.is_empty() => folder,

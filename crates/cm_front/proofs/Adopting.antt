@@ -1,4 +1,4 @@
--- A class's place is the next one of its loader's arena, where the arenas are those of the rows
+-- A class's place is the next one of its loader's arena, if the arenas are those of the rows
 -- before.
 -- For `take_rows`.
 use Rattle.std.proofs.Common.{◌≡◌, ℕ, zero, suc, ◌+◌, ◌-◌, ◌%◌, ◌<◌, ◌≤◌, ◌⊎◌, Bool, true, false}
@@ -16,7 +16,7 @@ use Rattle.cm_pool.specs.FreeSpace.{FreeSpace, IsFreeWord, IsFreeChunk}
 use Rattle.cm_pool.specs.Lists.{Among}
 use Rattle.cm_pool.specs.SpaceLaws.{RootsKeepHeld, RootsLoseNone}
 use Rattle.cm_pool.proofs.{same_chunk-true, same_chunk-itself}
-use Rattle.cm_arena.specs.Chains.{Filled, chunks_of, last_of}
+use Rattle.cm_arena.specs.Chains.{Filled, chain_chunks, last_of}
 use Rattle.cm_arena.specs.Placing.{next_offset, with_place}
 use Rattle.cm_layout.specs.declared.class_row.ClassRow.{ClassRow}
 use Rattle.cm_layout.specs.Rows.{classes_in, last_chunk, used_words}
@@ -31,21 +31,23 @@ use Rattle.cm_space.specs.Adopting.{with_roots, reaching, IsAdoptable}
 use Rattle.cm_space.specs.Ownership.{IsSpace, Owns, WaitsFor}
 use Rattle.cm_space.specs.Laws.{EachWord, RootsReach}
 use Rattle.cm_front.specs.Chains.{chain_from, top_of}
-use Rattle.cm_front.specs.Laws.{SpaceGoesWith}
+use Rattle.cm_front.specs.Laws.{SpaceMatches}
 use Rattle.cm_front.proofs.Chains.{never-on}
 use Rattle.cm_front.proofs.Chains.{no_last}
 use Rattle.cm_front.proofs.Tops.{chains_end_at_top}
 
--- ---- whose chunks a chain has
+-- ---- which rows a chain's chunks belong to
 
 placed_from : (chain : List Filled) (place : Place) (d : Chunk)
-    → Among d (chunks_of (with_place chain place)) → Among d (chunks_of chain) ⊎ (d ≡ place.chunk)
+    → Among d (chain_chunks (with_place chain place)) → Among d (chain_chunks chain)
+    ⊎ (d ≡ place.chunk)
 placed_from [] place d (inl e) = inr e
 placed_from [] place d (inr m) = absurd m
 placed_from (f ∷ []) place d m = by_test (same_chunk f.chunk place.chunk) m
   where
     by_test : (t : Bool)
-        → Among d (chunks_of (cond t (record { chunk = f.chunk; used = f.used + place.words } ∷ [])
+        → Among d (chain_chunks
+        (cond t (record { chunk = f.chunk; used = f.used + place.words } ∷ [])
         (f ∷ record { chunk = place.chunk; used = place.words } ∷ [])))
         → Among d (f.chunk ∷ []) ⊎ (d ≡ place.chunk)
     by_test true m = inl m
@@ -55,15 +57,15 @@ placed_from (f ∷ []) place d m = by_test (same_chunk f.chunk place.chunk) m
 placed_from (f ∷ g ∷ chain) place d (inl e) = inl (inl e)
 placed_from (f ∷ g ∷ chain) place d (inr m) = by_rest (placed_from (g ∷ chain) place d m)
   where
-    by_rest : Among d (chunks_of (g ∷ chain)) ⊎ (d ≡ place.chunk)
-        → Among d (chunks_of (f ∷ g ∷ chain)) ⊎ (d ≡ place.chunk)
+    by_rest : Among d (chain_chunks (g ∷ chain)) ⊎ (d ≡ place.chunk)
+        → Among d (chain_chunks (f ∷ g ∷ chain)) ⊎ (d ≡ place.chunk)
     by_rest (inl m) = inl (inr m)
     by_rest (inr e) = inr e
 
 -- a chunk of a chain is that of a row
 row_from : (chain : List Filled) (u : ℕ) (classes : List ClassRow) (d : Chunk)
-    → Among d (chunks_of (chain_from chain u classes))
-    → Among d (chunks_of chain) ⊎ ((s : ClassRow) × Among s classes × (s.place.chunk ≡ d))
+    → Among d (chain_chunks (chain_from chain u classes))
+    → Among d (chain_chunks chain) ⊎ ((s : ClassRow) × Among s classes × (s.place.chunk ≡ d))
 row_from chain u [] d m = inl m
 row_from chain u (r ∷ classes) d m =
     by_test (λ h. row_from (with_place chain r.place) u classes d h)
@@ -74,35 +76,40 @@ row_from chain u (r ∷ classes) d m =
         → (s : ClassRow) × Among s (r ∷ classes) × (s.place.chunk ≡ d)
     later found = (found.0, inr found.1, found.2)
 
-    by_place : Among d (chunks_of chain) ⊎ (d ≡ r.place.chunk)
-        → Among d (chunks_of chain) ⊎ ((s : ClassRow) × Among s (r ∷ classes) × (s.place.chunk ≡ d))
+    by_place : Among d (chain_chunks chain) ⊎ (d ≡ r.place.chunk)
+        → Among d (chain_chunks chain)
+        ⊎ ((s : ClassRow) × Among s (r ∷ classes) × (s.place.chunk ≡ d))
     by_place (inl m) = inl m
     by_place (inr e) = inr (r, inl refl, sym e)
 
-    by_rest : Among d (chunks_of (with_place chain r.place))
+    by_rest : Among d (chain_chunks (with_place chain r.place))
         ⊎ ((s : ClassRow) × Among s classes × (s.place.chunk ≡ d))
-        → Among d (chunks_of chain) ⊎ ((s : ClassRow) × Among s (r ∷ classes) × (s.place.chunk ≡ d))
+        → Among d (chain_chunks chain)
+        ⊎ ((s : ClassRow) × Among s (r ∷ classes) × (s.place.chunk ≡ d))
     by_rest (inl m) = by_place (placed_from chain r.place d m)
     by_rest (inr found) = inr (later found)
 
-    by_kept : Among d (chunks_of chain) ⊎ ((s : ClassRow) × Among s classes × (s.place.chunk ≡ d))
-        → Among d (chunks_of chain) ⊎ ((s : ClassRow) × Among s (r ∷ classes) × (s.place.chunk ≡ d))
+    by_kept : Among d (chain_chunks chain)
+        ⊎ ((s : ClassRow) × Among s classes × (s.place.chunk ≡ d))
+        → Among d (chain_chunks chain)
+        ⊎ ((s : ClassRow) × Among s (r ∷ classes) × (s.place.chunk ≡ d))
     by_kept (inl m) = inl m
     by_kept (inr found) = inr (later found)
 
-    by_test : (Among d (chunks_of (chain_from (with_place chain r.place) u classes))
-        → Among d (chunks_of (with_place chain r.place))
+    by_test : (Among d (chain_chunks (chain_from (with_place chain r.place) u classes))
+        → Among d (chain_chunks (with_place chain r.place))
         ⊎ ((s : ClassRow) × Among s classes × (s.place.chunk ≡ d)))
-        → (Among d (chunks_of (chain_from chain u classes))
-        → Among d (chunks_of chain) ⊎ ((s : ClassRow) × Among s classes × (s.place.chunk ≡ d)))
+        → (Among d (chain_chunks (chain_from chain u classes))
+        → Among d (chain_chunks chain) ⊎ ((s : ClassRow) × Among s classes × (s.place.chunk ≡ d)))
         → (t : Bool)
-        → Among d (chunks_of (cond t (chain_from (with_place chain r.place) u classes)
+        → Among d (chain_chunks (cond t (chain_from (with_place chain r.place) u classes)
         (chain_from chain u classes)))
-        → Among d (chunks_of chain) ⊎ ((s : ClassRow) × Among s (r ∷ classes) × (s.place.chunk ≡ d))
+        → Among d (chain_chunks chain)
+        ⊎ ((s : ClassRow) × Among s (r ∷ classes) × (s.place.chunk ≡ d))
     by_test here there true m = by_rest (here m)
     by_test here there false m = by_kept (there m)
 
--- ---- roots more
+-- ---- more roots
 
 with_roots_space : RootsKeepHeld → RootsLoseNone → (s : SpaceState) (n : ℕ) → IsSpace s
     → IsSpace (record s { pool = with_roots s.pool n })
@@ -190,7 +197,7 @@ words_at_least c (r ∷ classes) s m e =
         ∙ (ap (λ d. same_chunk d c) e ∙ same_chunk-itself c)) ∙ t))
     by_test rest false t (inr later) = rest later
 
--- ---- where a class's record goes
+-- ---- where a class's record is put
 
 pub last_is : (o : Option Chunk) (c : Chunk)
     → option_map_or (λ last. same_chunk last c) o false ≡ true
@@ -198,12 +205,12 @@ pub last_is : (o : Option Chunk) (c : Chunk)
 last_is (Some d) c h = ap Some (same_chunk-true d c h)
 last_is None c h = absurd (cc)
 
--- what is given of the rows before and of their space
+-- what is known of the rows before and of their space
 pub record Stands (sizes : Sizes) (n : ℕ) (pre : List BareRow) (space : SpaceState) : Type 0 where
   pub lawful : IsGeometry sizes
   pub live : LiveRowsKeep sizes n [] pre
   pub apart : AreApart (classes_in pre)
-  pub goes : SpaceGoesWith sizes pre space
+  pub matches : SpaceMatches sizes pre space
   pub waiting : space.waiting ≡ []
 
 pub record SpaceLaws : Type 0 where
@@ -212,14 +219,14 @@ pub record SpaceLaws : Type 0 where
   pub each : EachWord
   pub reach : RootsReach
 
--- the chunk of each word that isn't free is one of a row
+-- the chunk of each word that isn't free is that of a row
 owned_by_row : (sizes : Sizes) (n : ℕ) (pre : List BareRow) (space : SpaceState)
     → Stands sizes n pre space
     → (v : ℕ) (d : Chunk) → Owns space v d
     → (s : ClassRow) × Among s (classes_in pre) × (s.place.chunk ≡ d)
 owned_by_row sizes n pre space h v d owns =
     by_row (row_from [] v (classes_in pre) d
-    (subst (λ chain. Among d (chunks_of chain)) (h.goes.chains v) owns))
+    (subst (λ chain. Among d (chain_chunks chain)) (h.matches.chains v) owns))
   where
     by_row : Among d [] ⊎ ((s : ClassRow) × Among s (classes_in pre) × (s.place.chunk ≡ d))
         → (s : ClassRow) × Among s (classes_in pre) × (s.place.chunk ≡ d)
@@ -249,7 +256,7 @@ free_there : SpaceLaws → (sizes : Sizes) (n : ℕ) (pre : List BareRow) (space
 free_there laws sizes n pre space h c chunk unused =
     let block = chunk_block sizes c chunk in
     let top : (reaching space.pool c.root).geometry ≡ sizes =
-    roots_geometry space.pool (suc c.root - space.pool.roots) ∙ h.goes.geometry in
+    roots_geometry space.pool (suc c.root - space.pool.roots) ∙ h.matches.geometry in
     let roots : (reaching space.pool c.root).roots ≡ max space.pool.roots (c.root + 1) =
     laws.reach space.pool c.root in
     record {
@@ -262,7 +269,7 @@ free_there laws sizes n pre space h c chunk unused =
       };
       words = λ word from to. by_word word from to
           (laws.each (record space { pool = reaching space.pool c.root })
-          (with_roots_space laws.keep laws.lose space (suc c.root - space.pool.roots) h.goes.is)
+          (with_roots_space laws.keep laws.lose space (suc c.root - space.pool.roots) h.matches.is)
           c.root
           word (omega (arith, roots))
           (subst (λ (z : Sizes). word < chunk_size z.top) (sym top)
@@ -338,7 +345,7 @@ adoptable laws sizes n pre space h r fits = by_place (or_cases on_top new place)
         }
 
     tops : last_of (arena_of space r.loader) ≡ top_of r.loader pre
-    tops = ap last_of (h.goes.chains r.loader)
+    tops = ap last_of (h.matches.chains r.loader)
         ∙ chains_end_at_top sizes n pre h.live h.apart r.loader
 
     by_place : (on_top ≡ true) ⊎ (new ≡ true)
@@ -371,7 +378,7 @@ adoptable laws sizes n pre space h r fits = by_place (or_cases on_top new place)
         record {
           next = record { inside = inside; offset = zero_is ∙ sym (next_zero both_new.1) };
           front = λ _. (
-            subst (λ (z : Sizes). IsChunk z r.place.chunk) (sym h.goes.geometry) block,
+            subst (λ (z : Sizes). IsChunk z r.place.chunk) (sym h.matches.geometry) block,
             free_there laws sizes n pre space h r.place.chunk chunk_is both_new.1,
           );
         }

@@ -1,4 +1,4 @@
--- What an accepted cache answers, and what it is then.
+-- What an accepted cache returns, and its state afterwards.
 -- For `Front::add_loader`, `Front::define`, `Front::unload`.
 use Rattle.std.proofs.Common.{◌≡◌, ℕ, ◌+◌, ◌^◌, ◌<◌, ◌≤◌, Bool, true, false, cond, List, [], ◌∷◌}
 use Rattle.std.proofs.Common.{arith, length, Option, Some, None, inl, inr, refl, sym, ap, subst}
@@ -33,9 +33,9 @@ use Rattle.cm_space.specs.Ownership.{IsSpace}
 use Rattle.cm_state.specs.Step.{Change, Define, Unload, Tighten, UnloadAll}
 use Rattle.cm_state.specs.Entries.{change_of}
 use Rattle.cm_state.specs.Laws.{EntriesAreSteps}
-use Rattle.cm_prepare.specs.declared.refusal.Refusal.{Refusal}
-use Rattle.cm_prepare.specs.declared.refusal.Refusal.TheVariants as refusal
-use Rattle.cm_front.specs.Unsealed.{WaitingGroups, GoUpTo, Follow}
+use Rattle.cm_commands.specs.declared.refusal.Refusal.{Refusal}
+use Rattle.cm_commands.specs.declared.refusal.Refusal.TheVariants as refusal
+use Rattle.cm_front.specs.Unsealed.{WaitingGroups, EndBefore, Follow}
 use Rattle.cm_front.specs.Front.{FrontState, IsFront, IsDueLater, front_of, first_refusal}
 use Rattle.cm_front.specs.Accepting.{FrontAnswers, FrontAccepts, HasNoChunk, accepted, carried}
 use Rattle.cm_front.specs.Accepting.{joined_by, SpaceAfter, refusal_of_chunk}
@@ -50,7 +50,7 @@ use Rattle.cm_front.proofs.Goings.{past, Keeps, goes_on, keeps_loader, not_last}
 
 -- ---- the value
 
--- only the groups matter of what isn't handed out
+-- of what isn't handed out only the groups matter
 pub same_groups : (book : LiveRows (List ℕ)) (space : SpaceState) (old new : WaitingGroups)
     (number sealed learnt : ℕ) (broken closed : Bool) → new.groups ≡ old.groups
     → front_of book space new number sealed learnt broken closed
@@ -67,7 +67,7 @@ same_groups book space old new number sealed learnt broken closed e = λ i. reco
   closed = closed;
 }
 
--- neither do the space and the groups differ from what they were
+-- the cache is unchanged if its space and its groups are
 pub unchanged : (book : LiveRows (List ℕ)) (space left : SpaceState) (old new : WaitingGroups)
     (number sealed learnt : ℕ) (broken closed : Bool) (s : FrontState)
     → left ≡ space → new.groups ≡ old.groups
@@ -96,7 +96,7 @@ went_on book next space left old new number n sealed learnt broken closed e rows
       closed = closed;
     }
 
--- a rule that isn't broken lets the rows go on
+-- if no rule is broken, the rows are those with the entry
 pub applied : {R X : Type 0} (o : Option R) (new next old : X) → o ≡ None
     → new ≡ cond (is_none o) next old → new ≡ next
 applied o new next old none is = is ∙ ap (λ p. cond (is_none p) next old) none
@@ -105,13 +105,13 @@ pub above : LoadersAreOwn → (s : FrontState) → IsFront s → is_above (s.num
 above own s f = all_below s.number (numbers_in s.rows) (λ u a. past own s f u a)
 
 pub next_follows : (s : FrontState) (groups : _) → IsFront s → groups ≡ s.unsealed
-    → GoUpTo groups (s.number + 1)
+    → EndBefore groups (s.number + 1)
 next_follows s groups f e = record {
   from = s.sealed + 1;
   follow = subst (λ l. Follow (s.sealed + 1) l (s.number + 1)) (sym e) f.groups;
 }
 
--- ---- answers
+-- ---- results
 
 pub told : {X : Type 0} (s : FrontState) (change : Change (List ℕ))
     (a : Result X Refusal) (r : Refusal)
@@ -154,7 +154,7 @@ accepts s new change n e space is keeps after new_is some = record {
     space_of : space ≡ new.space
     space_of = sym (ap (λ (t : FrontState). t.space) new_is)
 
--- ---- the cache with an entry more
+-- ---- the cache with one more entry
 
 pub record Went (s : FrontState) (change : Change (List ℕ)) (n : ℕ)
     (new : FrontState) : Type 0 where
@@ -257,7 +257,7 @@ class_given own s x words u place f asked =
 pub is_known : (s : FrontState) (x : List ℕ) (u : ℕ) → IsFront s → IsAsked s x u → IsKnown s.space u
 is_known s x u f asked = (f.known u).1 (number_lives x u s.rows asked.found)
 
--- loaders that live are known, and no number of those that differ stands twice
+-- live loaders are known, and no number of different ones appears twice
 pub all_known : (s : FrontState) (us : List ℕ) → IsFront s → are_live us s.rows ≡ true
     → AllByRecursion (IsKnown s.space) us
 all_known s [] f live = tt
@@ -324,7 +324,7 @@ not_tight_for s x u found room tight =
     let same : tight.0 ≡ u = same_number tight.0 u (sym tight.1 ∙ found) in
     room (subst (λ v. IsTight (arena_of s.space v) s.space.pool) same tight.2)
 
--- no memory was left, and the region is full or not
+-- an allocation failed, and the region is full or not
 pub full_answer : (s new : FrontState) (x words : List ℕ) (u k : ℕ)
     → first_refusal s (Define x words) ≡ refused (class_asked s x words)
     → ◌≡◌ {A = Result ℕ Refusal} (class_asked s x words) (Ok u) → new ≡ s → k ≡ length words

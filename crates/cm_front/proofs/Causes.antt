@@ -1,4 +1,4 @@
--- What is looked for by names in the rows is the first cause against a step of the cache.
+-- The checks by names in the rows find the first cause against a step of the cache.
 -- For `Front::add_loader`, `Front::define`, `Front::unload`.
 use Rattle.std.proofs.Common.{◌≡◌, ℕ, suc, ◌+◌, ◌≤◌, Bool, true, false, cond, List, [], ◌∷◌}
 use Rattle.std.proofs.Common.{length, Option, Some, None, refl, sym, ap, subst, ◌∙◌, arith, eqb}
@@ -22,14 +22,14 @@ use Rattle.cm_state.specs.Step as step
 use Rattle.cm_state.specs.Step.{Cause, Change, AddLoader, Define, Unload, Tighten, UnloadAll}
 use Rattle.cm_state.specs.Step.{last_number}
 use Rattle.cm_state.specs.Laws.{LoadersAreFound, ClassesAreFound, SizesAgree}
-use Rattle.cm_prepare.specs.declared.refusal.Refusal.{Refusal}
-use Rattle.cm_prepare.specs.declared.refusal.Refusal.TheVariants as refusal
-use Rattle.cm_prepare.specs.Refusals.{refusal_of}
+use Rattle.cm_commands.specs.declared.refusal.Refusal.{Refusal}
+use Rattle.cm_commands.specs.declared.refusal.Refusal.TheVariants as refusal
+use Rattle.cm_commands.specs.Refusals.{refusal_of}
 use Rattle.cm_front.specs.Front.{FrontState, IsFront, first_refusal}
 use Rattle.cm_front.specs.Refusing.{loader_asked, loader_made, class_free, class_asked}
 use Rattle.cm_front.specs.Refusing.{numbers_of, loaders_asked}
 
--- the refusal in an answer
+-- the refusal in a result
 abbrev pub refused : {X : Type 0} → Result X Refusal → Option Refusal
 refused (Ok n) = None
 refused (Err r) = Some r
@@ -61,7 +61,7 @@ made_as_step true false true full next n = refl
 made_as_step true false false true next n = refl
 made_as_step true false false false next n = refl
 
--- ---- the rows tell the state
+-- ---- the rows determine the state
 
 pub one_class : (u : ℕ) (name : List ℕ) (rows : List (Row (List ℕ)))
     → class_of class_name_in u name rows ≡ class_among words_show u name rows
@@ -106,7 +106,7 @@ loader_refused loaders sizes s x f closed broken =
     m : Loaders (List ℕ)
     m = state_of words_show s.rows
 
--- ---- a loader that lives
+-- ---- a live loader
 
 abbrev asked : Bool → Bool → Option ℕ → Result ℕ Refusal
 asked named spent o =
@@ -251,7 +251,7 @@ all_as_step true true true o next = refl
 all_as_step true true false None next = refl
 all_as_step true true false (Some us) next = refl
 
--- each name has a loader where each has a number
+-- each name has a loader if each has a number
 all_there : LoadersAreFound (List ℕ) → (rows : List (Row (List ℕ))) (xs : List (List ℕ))
     → list_all (λ x. is_some (map.get (state_of words_show rows) x)) xs
     ≡ is_some (numbers_of xs rows)
@@ -280,9 +280,9 @@ unload_all_refused loaders s xs closed broken =
     m : Loaders (List ℕ)
     m = state_of words_show s.rows
 
--- ---- what an answer says
+-- ---- what a result says
 
--- a number is answered: the name is one, and numbers are left
+-- a number is returned: the name is one, and numbers are left
 pub record IsAsked (s : FrontState) (x : List ℕ) (u : ℕ) : Type 0 where
   pub named : is_loader_name x ≡ true
   pub left : eqb s.number last_number ≡ false
@@ -306,7 +306,7 @@ was_asked s x u e =
     let h = is_asked (is_loader_name x) (eqb s.number last_number) (number_of x s.rows) u e in
     record { named = h.0; left = h.1; found = h.2 }
 
--- numbers are answered: there may be an unload of loaders of these names
+-- numbers are returned: an unload of loaders of these names is possible
 pub record AreAsked (s : FrontState) (xs : List (List ℕ)) (us : List ℕ) : Type 0 where
   pub some : 1 ≤ length xs
   pub few : length xs ≤ unload_limit

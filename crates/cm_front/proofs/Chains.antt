@@ -1,4 +1,4 @@
--- The chain that rows make of a loader.
+-- The chain that rows give a loader.
 -- For `Front::restore`, `arenas_are_of_rows`, `chains_go_with_rows` and others.
 use Rattle.std.proofs.Common.{◌≡◌, ℕ, ◌+◌, ◌≤◌, ◌⊎◌, Bool, true, false, cond, List, []}
 use Rattle.std.proofs.Common.{◌∷◌, ◌++◌, map, Option, Some, None, inl, inr, refl, sym, ap}
@@ -31,7 +31,7 @@ use Rattle.cm_front.specs.Chains.{chain_from, chain_of, top_of}
 
 -- ---- tests
 
--- ---- one class more
+-- ---- one more class
 
 chain-more : (chain : List Filled) (u : ℕ) (classes : List ClassRow) (r : ClassRow)
     → chain_from chain u (classes ++ r ∷ [])
@@ -206,7 +206,7 @@ last-is : (c : Chunk) (o : Option Chunk)
 last-is c (Some d) h = ap Some (same_chunk-true d c h)
 last-is c None h = absurd (cc)
 
--- of a loader that has a class there
+-- the last chunk of a loader that has a class there
 pub own-last : (u : ℕ) (rows : List BareRow) (r : ClassRow) → r.loader ≡ u
     → is_last_chunk r.loader r.place.chunk rows ≡ true
     → last_chunk u (classes_in rows) ≡ Some r.place.chunk
@@ -239,7 +239,7 @@ place_of sizes pre r h =
     (class_kept (is_live r.loader pre && has_room sizes pre (Class r tt))
     (class_fits sizes pre r) h)).1
 
--- and that it has a word
+-- it has a word
 pub some_words : (sizes : Sizes) (pre : List BareRow) (r : ClassRow)
     → broken_of (is_live r.loader pre && has_room sizes pre (Class r tt)) (class_fits sizes pre r)
     ≡ None

@@ -1,4 +1,4 @@
--- The cache goes on with an entry.
+-- The cache after an entry.
 -- For `Front::add_loader`, `Front::define`, `Front::unload`.
 use Rattle.std.proofs.Common.{◌≡◌, ℕ, ◌+◌, ◌^◌, ◌<◌, ◌≤◌, Bool, true, false, cond, List, []}
 use Rattle.std.proofs.Common.{◌∷◌, ◌++◌, length, None, refl, sym, ap}
@@ -30,7 +30,7 @@ use Rattle.cm_state.specs.Step.{last_number}
 use Rattle.cm_state.specs.Laws.{EntriesAreSteps}
 use Rattle.cm_state.specs.Entries.{MayFollow}
 use Rattle.cm_front.specs.Chains.{chain_of}
-use Rattle.cm_front.specs.Laws.{SpaceGoesWith}
+use Rattle.cm_front.specs.Laws.{SpaceMatches}
 use Rattle.cm_front.specs.Front.{FrontState, IsFront, IsDueLater}
 use Rattle.cm_front.specs.Accepting.{accepted, carried}
 use Rattle.cm_front.proofs.Groups.{follow_joined}
@@ -68,11 +68,11 @@ live_past own s f u live = past own s f u (among_named u s.rows live)
 
 -- ---- any entry
 
--- what an entry's space and rows keep
+-- what an entry's space and rows preserve
 pub record Keeps (s : FrontState) (e : Entry (List ℕ)) (space : SpaceState) : Type 0 where
   pub may : MayFollow words_show s.sizes s.number s.rows e
   pub right : AreRight (rows_after s.rows e)
-  pub goes : SpaceGoesWith s.sizes (bare (rows_after s.rows e)) space
+  pub matches : SpaceMatches s.sizes (bare (rows_after s.rows e)) space
   pub known : (u : ℕ) → IsKnown space u ↔ (is_live u (rows_after s.rows e) ≡ true)
   pub waiting : AllByRecursion (IsDueLater s.learnt (s.number + 1)) space.waiting
 
@@ -84,7 +84,7 @@ goes_on steps s e space f below k =
       lawful = f.lawful;
       rows = step.rows_are;
       right = k.right;
-      space = k.goes;
+      space = k.matches;
       known = k.known;
       waiting = k.waiting;
       learnt = f.learnt;
@@ -92,7 +92,7 @@ goes_on steps s e space f below k =
       groups = follow_joined s.unsealed (s.sealed + 1) (s.number + 1) (carried s.rows e) f.groups;
     }
 
--- what waits for a number waits for it also when there is one more
+-- what waits for a number still waits for it when there is one more
 pub due_later : (learnt n : ℕ) (ws : List WaitingChunks) → AllByRecursion (IsDueLater learnt n) ws
     → AllByRecursion (IsDueLater learnt (n + 1)) ws
 due_later learnt n [] h = tt
@@ -209,7 +209,7 @@ keeps_loader own s x n f below m is pool =
     record {
       may = may_loader s x n below m;
       right = each-append IsRightRecord s.rows (Loader r ∷ []) f.right tt;
-      goes = record {
+      matches = record {
         is = is;
         pool = pool;
         geometry = f.space.geometry;

@@ -1,4 +1,4 @@
--- The cache goes on with a class.
+-- The cache after a class.
 -- For `Front::add_loader`, `Front::define`, `Front::restore` and others.
 use Rattle.std.proofs.Common.{◌≡◌, ℕ, ◌+◌, ◌%◌, ◌^◌, ◌<◌, ◌≤◌, Bool, true, false, cond, not, List}
 use Rattle.std.proofs.Common.{[], ◌∷◌, ◌++◌, length, map, Some, None, inl, inr, refl, sym, ap}
@@ -115,7 +115,7 @@ name_is own s x u f e =
 
 -- ---- places
 
--- whether a class's row has its place is told by the rows of classes alone
+-- whether a class's row fits its place depends only on the rows of classes
 fits_bare : {A : Type 0} (sizes : Sizes) (rows : List (Row A)) (r : ClassRow)
     → class_fits sizes rows r ≡ class_fits sizes (bare rows) r
 fits_bare {A} sizes rows r = ap by_classes (sym (classes-bare rows))
@@ -288,7 +288,7 @@ keeps_class keep own s x words u place chain left f free right p is pool =
     record {
       may = may_class keep own s x words u place chain left f free p;
       right = each-append IsRightRecord s.rows (Class r words ∷ []) f.right (right, tt);
-      goes = record {
+      matches = record {
         is = is;
         pool = pool;
         geometry =

@@ -1,5 +1,5 @@
--- The cache goes on with a move.
--- For `Front::move_down`.
+-- The cache after a move.
+-- For `Front::tighten_chunk`.
 use Rattle.std.proofs.Common.{◌≡◌, ℕ, ◌+◌, ◌≤◌, Bool, true, false, cond, List, [], ◌∷◌, ◌++◌}
 use Rattle.std.proofs.Common.{map, Some, inl, inr, refl, sym, ap, subst, ◌∙◌, arith, eqb}
 use Rattle.std.proofs.Common.{IsSome, pow_mono}
@@ -15,7 +15,7 @@ use Rattle.cm_pool.specs.FreeSpace.{FreeSpace, IsFreeSpace, IsUsedChunk}
 use Rattle.cm_pool.specs.Geometry.{Sizes, IsGeometry}
 use Rattle.cm_pool.specs.Lists.{Among}
 use Rattle.cm_pool.proofs.{same_chunk-true, same_chunk-itself, same_chunk-false, meets-itself}
-use Rattle.cm_arena.specs.Chains.{Filled, chunks_of, last_of}
+use Rattle.cm_arena.specs.Chains.{Filled, chain_chunks, last_of}
 use Rattle.cm_arena.specs.Placing.{with_place}
 use Rattle.cm_arena.specs.Tightening.{with_last, Tightens}
 use Rattle.cm_layout.specs.declared.class_row.ClassRow.{ClassRow}
@@ -33,7 +33,7 @@ use Rattle.cm_rows.proofs.{moved_class, classes-moved}
 use Rattle.cm_space.specs.Space.{SpaceState, IsKnown, arena_of, with_arena}
 use Rattle.cm_space.specs.Ownership.{IsSpace, WaitsFor}
 use Rattle.cm_space.specs.Laws.{OwnedIsUsed, OwnedOrWaiting}
-use Rattle.cm_space.specs.Tightening.{Moves}
+use Rattle.cm_space.specs.Tightening.{MovesChunk}
 use Rattle.cm_front.specs.Chains.{chain_from, chain_of}
 use Rattle.cm_front.specs.Front.{FrontState, IsFront, IsDueLater}
 use Rattle.cm_front.proofs.Adopting.{last_is}
@@ -59,7 +59,7 @@ renamed_in from to f = record { chunk = renamed from to f.chunk; used = f.used }
 abbrev IsNew : Chunk → List Chunk → Type 0
 IsNew c chunks = (d : Chunk) → Among d chunks → same_chunk d c ≡ false
 
--- chunks are told apart as before, where the new one isn't among them
+-- chunks are distinguished as before, if the new one isn't among them
 same-renamed : (from to c d : Chunk) → same_chunk c to ≡ false → same_chunk d to ≡ false
     → same_chunk (renamed from to c) (renamed from to d) ≡ same_chunk c d
 same-renamed from to c d c_new d_new =
@@ -91,7 +91,8 @@ same-renamed from to c d c_new d_new =
     by_tests false p true q = c_new ∙ sym (turned d c (differ d c q p))
     by_tests false p false q = refl
 
-place-renamed : (from to : Chunk) (chain : List Filled) (place : Place) → IsNew to (chunks_of chain)
+place-renamed : (from to : Chunk) (chain : List Filled) (place : Place)
+    → IsNew to (chain_chunks chain)
     → same_chunk place.chunk to ≡ false
     → with_place (map (renamed_in from to) chain)
     (record place { chunk = renamed from to place.chunk })
@@ -118,13 +119,13 @@ place-renamed from to (f ∷ g ∷ rest) place new other =
     ap (λ l. renamed_in from to f ∷ l)
     (place-renamed from to (g ∷ rest) place (λ d m. new d (inr m)) other)
 
-still-new : (to : Chunk) (chain : List Filled) (place : Place) → IsNew to (chunks_of chain)
-    → same_chunk place.chunk to ≡ false → IsNew to (chunks_of (with_place chain place))
+still-new : (to : Chunk) (chain : List Filled) (place : Place) → IsNew to (chain_chunks chain)
+    → same_chunk place.chunk to ≡ false → IsNew to (chain_chunks (with_place chain place))
 still-new to [] place new other d (inl e) = ap (λ k. same_chunk k to) e ∙ other
 still-new to [] place new other d (inr none) = absurd none
 still-new to (f ∷ []) place new other d m = by_test (same_chunk f.chunk place.chunk) m
   where
-    by_test : (t : Bool) → Among d (chunks_of
+    by_test : (t : Bool) → Among d (chain_chunks
         (cond t (record { chunk = f.chunk; used = f.used + place.words } ∷ [])
         (f ∷ record { chunk = place.chunk; used = place.words } ∷ [])))
         → same_chunk d to ≡ false
@@ -159,7 +160,7 @@ loader-moved from to r = by_test (same_chunk r.place.chunk from)
 
 -- the chain of rows after a move is the one before it, with the new chunk in the old one's place
 from-renamed : (from to : Chunk) (chain : List Filled) (u : ℕ) (classes : List ClassRow)
-    → IsNew to (chunks_of chain)
+    → IsNew to (chain_chunks chain)
     → ((r : ClassRow) → Among r classes → same_chunk r.place.chunk to ≡ false)
     → chain_from (map (renamed_in from to) chain) u (map (moved_class from to) classes)
     ≡ map (renamed_in from to) (chain_from chain u classes)
@@ -208,7 +209,7 @@ chain-renamed from to v rows others =
     ∙ from-renamed from to [] v (classes_in rows) (λ d none. absurd none) others
 
 -- a chain without the chunk stays
-renamed-stays : (from to : Chunk) (chain : List Filled) → IsNew from (chunks_of chain)
+renamed-stays : (from to : Chunk) (chain : List Filled) → IsNew from (chain_chunks chain)
     → map (renamed_in from to) chain ≡ chain
 renamed-stays from to [] new = refl
 renamed-stays from to (f ∷ rest) new =
@@ -216,13 +217,13 @@ renamed-stays from to (f ∷ rest) new =
     ∷ map (renamed_in from to) rest) (new f.chunk (inl refl))
     ∙ ap (λ l. f ∷ l) (renamed-stays from to rest (λ d m. new d (inr m)))
 
--- of the chain that ends with it the last chunk is another
+-- in a chain that ends with it, the last chunk is replaced
 filled_with : Chunk → ℕ → Filled
 filled_with c used = record { chunk = c; used = used }
 
 renamed-last : (from to : Chunk) (used : ℕ) (chain : List Filled)
     → last_of chain ≡ Some (record { chunk = from; used = used })
-    → IsNew from (chunks_of (with_last chain to))
+    → IsNew from (chain_chunks (with_last chain to))
     → map (renamed_in from to) chain ≡ with_last chain to
 unfolding filled_with
 renamed-last from to used [] last new = absurd (cc)
@@ -284,7 +285,7 @@ fits-block sizes c g b =
       at = omega (arith, inside, top);
     }
 
--- What is used of what is known of spaces and rows.
+-- What is used of the facts about spaces and rows.
 pub record Known : Type 0 where
   pub own : LoadersAreOwn
   pub used : OwnedIsUsed
@@ -292,7 +293,7 @@ pub record Known : Type 0 where
 
 -- the loader's tail has moved in the space
 pub record IsMoved (s : FrontState) (u : ℕ) (from to : Chunk) (left : SpaceState) : Type 0 where
-  pub moves : Moves s.space u (s.number + 1) (record { from = from; to = to }) left
+  pub moves : MovesChunk s.space u (s.number + 1) (record { from = from; to = to }) left
   pub is : IsSpace left
   pub pool : IsFreeSpace left.pool
 
@@ -336,7 +337,7 @@ module _ (known : Known) (s : FrontState) (x : List ℕ) (u : ℕ) (from to : Ch
   row_used : (r : ClassRow) → Among r (classes_in s.rows) → IsUsedChunk s.space.pool r.place.chunk
   row_used r among =
       known.used s.space f.space.is r.loader r.place.chunk
-      (subst (λ (l : List Filled). Among r.place.chunk (chunks_of l)) (sym (f.space.chains
+      (subst (λ (l : List Filled). Among r.place.chunk (chain_chunks l)) (sym (f.space.chains
       r.loader))
       (chains_have_chunks (bare s.rows) r
       (subst (λ l. Among r l) (sym (classes-bare s.rows)) among)))
@@ -399,8 +400,8 @@ module _ (known : Known) (s : FrontState) (x : List ℕ) (u : ℕ) (from to : Ch
       ap (λ a. unwrap_or (fin.get a v) []) arenas
       ∙ ap (λ o. unwrap_or o []) (got_other s.space u v chain e)
 
-  -- what an arena has then isn't the chunk that was left, which waits
-  no_longer : (v : ℕ) → IsNew from (chunks_of (arena_of left v))
+  -- no arena afterwards has the chunk that was left, which waits
+  no_longer : (v : ℕ) → IsNew from (chain_chunks (arena_of left v))
   no_longer v d among =
       same_chunk-false d from (λ e.
       known.apart left m.is v (s.number + 1) d from among waits
@@ -429,8 +430,8 @@ module _ (known : Known) (s : FrontState) (x : List ℕ) (u : ℕ) (from to : Ch
       by_test : (t : Bool) → eqb v u ≡ t → arena_of left v ≡ chain_of v (moved from to s.rows)
       by_test true e =
           let same : v ≡ u = eqb-true v u e in
-          let new : IsNew from (chunks_of (with_last (arena_of s.space u) to)) =
-          subst (λ (l : List Filled). IsNew from (chunks_of l)) (arena_here ∙ tight.after)
+          let new : IsNew from (chain_chunks (with_last (arena_of s.space u) to)) =
+          subst (λ (l : List Filled). IsNew from (chain_chunks l)) (arena_here ∙ tight.after)
           (no_longer u) in
           ap (λ k. arena_of left k) same
           ∙ (arena_here
@@ -440,8 +441,8 @@ module _ (known : Known) (s : FrontState) (x : List ℕ) (u : ℕ) (from to : Ch
           ∙ (ap (map (renamed_in from to)) before
           ∙ sym (chain-renamed from to v s.rows to_new))))))
       by_test false e =
-          let new : IsNew from (chunks_of (chain_of v s.rows)) =
-          subst (λ (l : List Filled). IsNew from (chunks_of l)) (arena_other v e ∙ before)
+          let new : IsNew from (chain_chunks (chain_of v s.rows)) =
+          subst (λ (l : List Filled). IsNew from (chain_chunks l)) (arena_other v e ∙ before)
           (no_longer v) in
           arena_other v e
           ∙ (before
@@ -490,7 +491,7 @@ module _ (known : Known) (s : FrontState) (x : List ℕ) (u : ℕ) (from to : Ch
           new = tt;
         };
         right = each-moved IsRightRecord from to s.rows f.right;
-        goes = record {
+        matches = record {
           is = m.is;
           pool = m.pool;
           geometry =

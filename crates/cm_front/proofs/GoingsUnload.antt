@@ -1,4 +1,4 @@
--- The cache goes on with an unload, of one loader or of several at once.
+-- The cache after an unload, of one loader or of several at once.
 -- For `Front::add_loader`, `Front::define`, `Front::unload`.
 use Rattle.std.proofs.Common.{◌≡◌, ℕ, ◌+◌, ◌^◌, ◌<◌, Bool, true, false, cond, not, List, [], ◌∷◌}
 use Rattle.std.proofs.Common.{◌++◌, None, refl, sym, ap, subst, ◌∙◌, arith, eqb, IsSome}
@@ -7,7 +7,7 @@ use Rattle.std.specs.List.{AllByRecursion}
 use Rattle.std.specs.FinMap as fin
 use Rattle.std.proofs.lemmas.Bool.{eqb-true, and_parts}
 use Rattle.cm_pool.specs.FreeSpace.{FreeSpace, IsFreeSpace}
-use Rattle.cm_arena.specs.Chains.{chunks_of}
+use Rattle.cm_arena.specs.Chains.{chain_chunks}
 use Rattle.cm_layout.specs.declared.row.Row.{Row}
 use Rattle.cm_layout.specs.declared.row.Row.TheVariants.{Loader, Class}
 use Rattle.cm_layout.specs.declared.entry.Entry.{Entry}
@@ -39,7 +39,7 @@ pub due_more : (learnt n : ℕ) (ws : List WaitingChunks) (w : WaitingChunks)
 due_more learnt n [] w h d = (d, tt)
 due_more learnt n (v ∷ ws) w h d = (h.0, due_more learnt n ws w h.1 d)
 
--- rows and a space that fit each other, but for the words of the space's chunks
+-- rows and a space that fit each other, except for the words of the space's chunks
 pub record AreOfOne (learnt n : ℕ) (rows : List (Row (List ℕ))) (space : SpaceState)
     : Type 0 where
   pub right : AreRight rows
@@ -100,11 +100,11 @@ module _ {learnt n : ℕ} {rows : List (Row (List ℕ))} {space : SpaceState} wh
     known = known_left u one;
     waiting =
         due_more learnt n space.waiting
-        (record { number = n; chunks = chunks_of (arena_of space u) }) one.waiting
+        (record { number = n; chunks = chain_chunks (arena_of space u) }) one.waiting
         (record { from = later; to = omega arith });
   }
 
--- loaders leave one after another
+-- loaders are unloaded one after another
 all_left : (learnt n : ℕ) (us : List ℕ) (rows : List (Row (List ℕ))) (space : SpaceState)
     → learnt < n → AreOfOne learnt n rows space
     → AreOfOne learnt n (without_loaders us rows) (left_by_all space n us)
@@ -116,7 +116,7 @@ pool_left : (s : SpaceState) (n : ℕ) (us : List ℕ) → (left_by_all s n us).
 pool_left s n [] = refl
 pool_left s n (u ∷ us) = pool_left (left_by s n u) n us
 
--- the loaders leave, and what is left is what the entry keeps
+-- the loaders are unloaded, and what is left is what the entry preserves
 keeps_left : (s : FrontState) (us : List ℕ) (e : Entry (List ℕ)) → IsFront s
     → MayFollow words_show s.sizes s.number s.rows e
     → rows_after s.rows e ≡ without_loaders us s.rows
@@ -138,7 +138,7 @@ keeps_left s us e f may rows is pool =
     record {
       may = may;
       right = after.right;
-      goes = record {
+      matches = record {
         is = is;
         pool = pool;
         geometry = ap (λ (p : FreeSpace). p.geometry) (pool_left s.space (s.number + 1) us)

@@ -24,7 +24,7 @@ use Rattle.cm_front.specs.Front.{IsFront, IsDueLater, front_of}
 use Rattle.cm_front.specs.Accepting.{HandsOut}
 use Rattle.cm_front.proofs.Causes.{one_class}
 
--- ---- looking up
+-- ---- lookup
 
 pub nothing_there : ClassesAreFound (List ℕ) → (rows : List (Row (List ℕ))) (x name : List ℕ)
     → number_of x rows ≡ None → class_in (state_of words_show rows) x name ≡ None

@@ -1,4 +1,4 @@
--- What crates above may cite of these proofs is what `pub use` passes on; all else is private.
+-- Crates above may cite only those of these proofs that `pub use` passes on; all else is private.
 mod Chains
 mod Tops
 mod Places
@@ -18,5 +18,5 @@ mod Taking
 -- A place that a space finds, whose arenas are those of the rows, is one that the entry rules
 -- allow.
 pub use Places.{used-with-root, fetched_free, free-apart, some-top}
--- What one row more, or one loader less, makes of what rows say.
+-- How one more row, or one loader less, changes what rows say.
 pub use RowFacts.{classes_left}

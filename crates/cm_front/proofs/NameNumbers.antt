@@ -19,7 +19,7 @@ use Rattle.cm_front.specs.Refusing.{numbers_of}
 use Rattle.cm_front.proofs.Causes.{AreAsked}
 use Rattle.cm_front.proofs.GoingsClass.{number_lives, name_is}
 
--- what was found so far, before what will be found
+-- what was found so far, before what is found later
 abbrev pub with_front : List ℕ → Option (List ℕ) → Option (List ℕ)
 with_front front found = option_map (λ us. front ++ us) found
 
@@ -93,7 +93,7 @@ numbers-named rows (x ∷ xs) (u ∷ us) named h =
     ap (option_and_then (λ y. option_map (λ ys. y ∷ ys) (names_of rows us))) (named x u h.0)
     ∙ ap (option_map (λ ys. x ∷ ys)) (numbers-named rows xs us named h.1)
 
--- loaders of names that differ have numbers that do
+-- loaders of different names have different numbers
 number-apart : (rows : List (Row (List ℕ))) (x : List ℕ) (u : ℕ) (xs : List (List ℕ))
     (us : List ℕ)
     → NamesAre rows → number_of x rows ≡ Some u
@@ -130,7 +130,7 @@ numbers-differ rows (x ∷ xs) (u ∷ us) named apart h =
     rw (number-apart rows x u xs us named h.0 parts.0 h.1)
     (numbers-differ rows xs us named parts.1 h.1)
 
--- what is known of the numbers that are answered
+-- what is known of the numbers that are returned
 pub record AreFound (s : FrontState) (xs : List (List ℕ)) (us : List ℕ) : Type 0 where
   pub count : length us ≡ length xs
   pub live : are_live us s.rows ≡ true

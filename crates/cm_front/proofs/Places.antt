@@ -16,7 +16,7 @@ use Rattle.cm_pool.specs.FreeSpace.{with_root}
 use Rattle.cm_pool.specs.Lists.{Among}
 use Rattle.cm_pool.specs.SpaceLaws.{RootsKeepHeld}
 use Rattle.cm_pool.proofs.{same_chunk-itself, meets-itself, same_chunk-false}
-use Rattle.cm_arena.specs.Chains.{Filled, chunks_of, last_of, with_more}
+use Rattle.cm_arena.specs.Chains.{Filled, chain_chunks, last_of, with_more}
 use Rattle.cm_arena.specs.Placing.{Fetches, order_wanted, with_place}
 use Rattle.cm_space.specs.Space.{arena_of}
 use Rattle.cm_space.specs.Laws.{OwnedIsUsed}
@@ -74,7 +74,7 @@ filled : Chunk → ℕ → Filled
 filled c used = record { chunk = c; used = used }
 
 pub last-among : (chain : List Filled) (f : Filled) → last_of chain ≡ Some f
-    → Among f.chunk (chunks_of chain)
+    → Among f.chunk (chain_chunks chain)
 last-among [] f e = absurd (cc)
 last-among (g ∷ []) f e =
     let same : f ≡ g = cc in inl (ap (λ (h : Filled). h.chunk) same)
@@ -126,7 +126,7 @@ pub used-with-root : RootsKeepHeld → (p : FreeSpace) (d : Chunk) → IsUsedChu
 used-with-root keep p d used =
     (keep p (d ∷ []) (record { each = (used, tt); apart = (tt, tt) })).each.0
 
--- what is fetched is free, in the pool or in one with a root more
+-- what is fetched is free, in the pool or in one with one more root
 pub record IsFetchedFree (p : FreeSpace) (c : Chunk) : Type 0 where
   pub block : IsBlock p.geometry.top p.geometry.roots c
   pub apart : (d : Chunk) → IsUsedChunk p d → ¬ Meets c d
@@ -189,7 +189,7 @@ some-top u rows c used e = by_last (last_chunk u (classes_in rows)) e
             (ap (λ (f : Filled). f.chunk) same, ap (λ (f : Filled). f.used) same)
 
 pub places_keep_rules : OwnedIsUsed → RootsKeepHeld → PlacesKeepRules
-places_keep_rules owned keep sizes n rows space u words place chain left live apart goes
+places_keep_rules owned keep sizes n rows space u words place chain left live apart matches
     some (inl on) =
     let t = on.0 in
     let row : ClassRow = record { loader = u; place = place } in
@@ -197,15 +197,15 @@ places_keep_rules owned keep sizes n rows space u words place chain left live ap
     ≡ Some (record { chunk = place.chunk; used = place.offset }) =
     subst (λ (l : List Filled). last_of l
     ≡ Some (record { chunk = place.chunk; used = place.offset }))
-    (goes.chains u) t.last in
+    (matches.chains u) t.last in
     let top = some-top u rows place.chunk place.offset
     (sym (chains_end_at_top sizes n rows live apart u) ∙ here) in
-    let used = owned space goes.is u place.chunk
+    let used = owned space matches.is u place.chunk
     (last-among (arena_of space u) (record { chunk = place.chunk; used = place.offset }) t.last) in
     let block : IsBlock sizes.top sizes.roots place.chunk =
-    subst (λ (z : Sizes). IsBlock z.top z.roots place.chunk) goes.geometry (record {
+    subst (λ (z : Sizes). IsBlock z.top z.roots place.chunk) matches.geometry (record {
       within_top = used.block.within_top;
-      in_a_root = omega (arith, used.block.in_a_root, goes.pool.roots);
+      in_a_root = omega (arith, used.block.in_a_root, matches.pool.roots);
       aligned = used.block.aligned;
       inside = used.block.inside;
     }) in
@@ -220,23 +220,24 @@ places_keep_rules owned keep sizes n rows space u words place chain left live ap
           (eqb place.offset (used_words place.chunk rows))
           top.0 (eq-eqb place.offset (used_words place.chunk rows) top.1)));
       chain_is = t.after ∙ (more-placed (arena_of space u) place words t.last t.amount
-          ∙ (ap (λ (l : List Filled). with_place l place) (goes.chains u)
+          ∙ (ap (λ (l : List Filled). with_place l place) (matches.chains u)
           ∙ sym (chain_grows u rows row refl)));
     }
-places_keep_rules owned keep sizes n rows space u words place chain left live apart goes
+places_keep_rules owned keep sizes n rows space u words place chain left live apart matches
     some (inr f) =
     let row : ClassRow = record { loader = u; place = place } in
     let t = f.in_new in
     let free = fetched_free keep space.pool
     (order_wanted f.need (length (arena_of space u)) space.pool.geometry.top) f.need
     place.chunk left
-    goes.pool f.fetches in
+    matches.pool f.fetches in
     let block : IsBlock sizes.top sizes.roots place.chunk =
-    subst (λ (z : Sizes). IsBlock z.top z.roots place.chunk) goes.geometry free.block in
+    subst (λ (z : Sizes). IsBlock z.top z.roots place.chunk) matches.geometry free.block in
     let unused : is_unused place.chunk rows ≡ true =
     apart-unused place.chunk (classes_in rows) (λ s m.
-    free.apart s.place.chunk (owned space goes.is s.loader s.place.chunk
-    (subst (λ (l : List Filled). Among s.place.chunk (chunks_of l)) (sym (goes.chains s.loader))
+    free.apart s.place.chunk (owned space matches.is s.loader s.place.chunk
+    (subst (λ (l : List Filled). Among s.place.chunk (chain_chunks l))
+    (sym (matches.chains s.loader))
     (chains_have_chunks rows s m)))) in
     record {
       amount = t.amount;
@@ -250,9 +251,10 @@ places_keep_rules owned keep sizes n rows space u words place chain left live ap
           unused));
       chain_is = t.after ∙ (new-placed (arena_of space u) place words
           (λ g last. same_chunk-false g.chunk place.chunk (λ same.
-          free.apart g.chunk (owned space goes.is u g.chunk (last-among (arena_of space u) g last))
+          free.apart g.chunk (owned space matches.is u g.chunk
+          (last-among (arena_of space u) g last))
           (subst (λ (c : Chunk). Meets place.chunk c) (sym same) (meets-itself place.chunk))))
           t.amount
-          ∙ (ap (λ (l : List Filled). with_place l place) (goes.chains u)
+          ∙ (ap (λ (l : List Filled). with_place l place) (matches.chains u)
           ∙ sym (chain_grows u rows row refl)));
     }

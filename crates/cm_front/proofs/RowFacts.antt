@@ -1,4 +1,4 @@
--- What one row more, or one loader less, makes of what rows say.
+-- How one more row, or one loader less, changes what rows say.
 -- For `Front::add_loader`, `Front::define`, `Front::restore` and others.
 use Rattle.std.proofs.Common.{◌≡◌, ℕ, ◌+◌, ◌≤◌, Bool, true, false, cond, not, List, [], ◌∷◌, ◌++◌}
 use Rattle.std.proofs.Common.{Some, None, inl, inr, refl, sym, ap, ◌∙◌, arith, eqb}
@@ -16,13 +16,13 @@ use Rattle.cm_layout.specs.Rows.{classes_in, numbers_in, name_of, without_loader
 use Rattle.cm_layout.proofs.{classes-bare, classes_in-append}
 use Rattle.cm_front.specs.Chains.{chain_from, chain_of}
 
--- ---- with nothing kept
+-- ---- without what is kept
 
 pub chain_bare : {A : Type 0} (u : ℕ) (rows : List (Row A)) → chain_of u (bare rows)
     ≡ chain_of u rows
 chain_bare u rows = ap (chain_from [] u) (classes-bare rows)
 
--- ---- one row more
+-- ---- one more row
 
 pub name_with_loader : {A : Type 0} (u : ℕ) (rows : List (Row A)) (r : _)
     → is_some (name_of u (rows ++ Loader r ∷ []))

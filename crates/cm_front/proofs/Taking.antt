@@ -30,7 +30,7 @@ use Rattle.cm_space.specs.Adopting.{pool_after, reaching}
 use Rattle.cm_space.specs.Ownership.{IsSpace}
 use Rattle.cm_state.specs.State.{words_show}
 use Rattle.cm_state.specs.Entries.{AreCacheRows}
-use Rattle.cm_front.specs.Restoring.{roots_of, IsSpaceOf, CanTake, Takes, IsOnTheWay}
+use Rattle.cm_front.specs.Restoring.{roots_of, IsSpaceOf, CanTake, RestoresRow, IsOnTheWay}
 use Rattle.cm_front.proofs.Chains.{chain_grows}
 use Rattle.cm_front.proofs.RowFacts.{among_named}
 use Rattle.cm_front.proofs.Goings.{known_loader, chains_loader}
@@ -116,16 +116,16 @@ never_before sizes n taken r space keeps s known =
     absurd (omega (arith, less))
 
 took_loader : (sizes : Sizes) (taken : List (Row (List ℕ))) (r : LoaderRow) (old new : SpaceState)
-    → (IsKnown old r.number → ⊥) → IsSpaceOf sizes taken old → Takes (Loader r) old new
+    → (IsKnown old r.number → ⊥) → IsSpaceOf sizes taken old → RestoresRow (Loader r) old new
     → IsSpaceOf sizes (taken ++ Loader r ∷ []) new
 took_loader sizes taken r old new never s t =
     subst (λ z. IsSpaceOf sizes (taken ++ Loader r ∷ []) z) (sym t.after)
     (record {
-      goes = record {
+      matches = record {
         is = subst IsSpace t.after t.is;
-        pool = s.goes.pool;
-        geometry = s.goes.geometry;
-        chains = chains_loader taken old r s.goes.chains never;
+        pool = s.matches.pool;
+        geometry = s.matches.geometry;
+        chains = chains_loader taken old r s.matches.chains never;
       };
       known = known_loader taken old r s.known;
       waiting = s.waiting;
@@ -176,7 +176,7 @@ after_geometry p place = by_test (eqb place.offset 0)
     by_test true = roots_geometry p (suc place.chunk.root - p.roots)
     by_test false = refl
 
--- where a class isn't at a chunk's front, its chunk is that of a row before
+-- if a class isn't at a chunk's front, its chunk is that of a row before
 on_row : (sizes : Sizes) (pre : List BareRow) (r : ClassRow) → class_fits sizes pre r ≡ true
     → eqb r.place.offset 0 ≡ false → r.place.chunk.root + 1 ≤ roots_of (classes_in pre)
 on_row sizes pre r fits behind =
@@ -231,13 +231,13 @@ stands sizes n taken row space lawful next s = record {
   lawful = lawful;
   live = next.live;
   apart = next.apart;
-  goes = s.goes;
+  matches = s.matches;
   waiting = s.waiting;
 }
 
 took_class : SpaceLaws → (sizes : Sizes) (n : ℕ) (taken : List (Row (List ℕ))) (r : ClassRow)
     (words : List ℕ) (old new : SpaceState) → IsNextRow sizes n taken (Class r words)
-    → IsSpaceOf sizes taken old → Takes (Class r words) old new
+    → IsSpaceOf sizes taken old → RestoresRow (Class r words) old new
     → IsSpaceOf sizes (taken ++ Class r words ∷ []) new
 took_class laws sizes n taken r words old new next s t =
     let chain = with_place (arena_of old r.loader) r.place in
@@ -247,12 +247,12 @@ took_class laws sizes n taken r words old new next s t =
     ap is_some (sym (name_bare r.loader taken)) ∙ fits_live sizes n (bare taken) r next.keeps in
     subst (λ z. IsSpaceOf sizes (taken ++ Class r words ∷ []) z) (sym t.after)
     (record {
-      goes = record {
+      matches = record {
         is = subst IsSpace t.after t.is;
         pool = subst (λ (z : SpaceState). IsFreeSpace z.pool) t.after t.pool;
-        geometry = after_geometry old.pool r.place ∙ s.goes.geometry;
-        chains = chains_class taken old r words chain left s.goes.chains
-            (ap (λ l. with_place l r.place) (s.goes.chains r.loader)
+        geometry = after_geometry old.pool r.place ∙ s.matches.geometry;
+        chains = chains_class taken old r words chain left s.matches.chains
+            (ap (λ l. with_place l r.place) (s.matches.chains r.loader)
             ∙ sym (chain_grows r.loader (bare taken) r refl));
       };
       known = known_class taken old r words chain left s.known live;
@@ -287,7 +287,8 @@ can_take laws sizes n rows rest (Class r words) space lawful cache way =
 pub took : SpaceLaws → (sizes : Sizes) (n : ℕ) (rows rest : List (Row (List ℕ)))
     (row : Row (List ℕ))
     (old new : SpaceState) → IsGeometry sizes → AreCacheRows words_show sizes n rows
-    → IsOnTheWay sizes rows (row ∷ rest) old → Takes row old new → IsOnTheWay sizes rows rest new
+    → IsOnTheWay sizes rows (row ∷ rest) old → RestoresRow row old new
+    → IsOnTheWay sizes rows rest new
 took laws sizes n rows rest row old new lawful cache way t = record {
   taken = way.taken ++ row ∷ [];
   split = append_assoc way.taken (row ∷ []) rest ∙ way.split;
@@ -296,7 +297,7 @@ took laws sizes n rows rest row old new lawful cache way t = record {
 }
   where
     by_row : (row : Row (List ℕ)) → IsNextRow sizes n way.taken row → CanTake row old
-        → Takes row old new → IsSpaceOf sizes (way.taken ++ row ∷ []) new
+        → RestoresRow row old new → IsSpaceOf sizes (way.taken ++ row ∷ []) new
     by_row (Loader r) next can t = took_loader sizes way.taken r old new can way.so_far t
     by_row (Class r words) next can t =
         took_class laws sizes n way.taken r words old new next way.so_far t
@@ -309,7 +310,7 @@ pub none_taken : (sizes geometry : Sizes) (space : SpaceState) → sizes ≡ geo
 none_taken sizes geometry space same is whole free =
     subst (λ z. IsSpaceOf sizes [] z) (sym is)
     (record {
-      goes = record {
+      matches = record {
         is = subst IsSpace is whole;
         pool = subst (λ (z : SpaceState). IsFreeSpace z.pool) is free;
         geometry = sym same;

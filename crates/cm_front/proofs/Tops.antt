@@ -1,5 +1,5 @@
--- Chains end at the top of their loader's last chunk, have the chunk of each class, and are the
--- chunks that its classes begin.
+-- Chains end at the top of their loader's last chunk, have the chunk of each class, and consist of
+-- the chunks that its classes begin.
 -- For `arenas_are_of_rows`, `chains_go_with_rows`.
 use Rattle.std.proofs.Common.{◌≡◌, ◌≤◌, ℕ, ◌+◌, ◌⊎◌, Bool, true, false, cond, List, [], ◌∷◌, ◌++◌}
 use Rattle.std.proofs.Common.{map, Option, Some, None, inl, inr, refl, sym, ap, subst, ◌∙◌, arith}
@@ -16,7 +16,7 @@ use Rattle.cm_pool.specs.Chunks.{same_chunk}
 use Rattle.cm_pool.specs.Geometry.{Sizes}
 use Rattle.cm_pool.specs.Lists.{Among}
 use Rattle.cm_pool.proofs.{same_chunk-true, same_chunk-itself}
-use Rattle.cm_arena.specs.Chains.{Filled, chunks_of, last_of}
+use Rattle.cm_arena.specs.Chains.{Filled, chain_chunks, last_of}
 use Rattle.cm_arena.specs.Placing.{with_place}
 use Rattle.cm_layout.specs.declared.loader_row.LoaderRow.{LoaderRow}
 use Rattle.cm_layout.specs.declared.class_row.ClassRow.{ClassRow}
@@ -70,11 +70,12 @@ begun-more u classes r =
     by_test false = refl
 
 same-chunks : (chain : List Filled) (place : Place) (f : Filled) → last_of chain ≡ Some f
-    → same_chunk f.chunk place.chunk ≡ true → chunks_of (with_place chain place) ≡ chunks_of chain
+    → same_chunk f.chunk place.chunk ≡ true → chain_chunks (with_place chain place)
+    ≡ chain_chunks chain
 same-chunks [] place f e same = absurd (cc)
 same-chunks (g ∷ []) place f e same =
     let here : g ≡ f = cc in
-    ap (λ t. chunks_of (cond t (record { chunk = g.chunk; used = g.used + place.words } ∷ [])
+    ap (λ t. chain_chunks (cond t (record { chunk = g.chunk; used = g.used + place.words } ∷ [])
     (g ∷ record { chunk = place.chunk; used = place.words } ∷ [])))
     (ap (λ (h : Filled). same_chunk h.chunk place.chunk) here ∙ same)
 same-chunks (g ∷ h ∷ rest) place f e same =
@@ -82,10 +83,10 @@ same-chunks (g ∷ h ∷ rest) place f e same =
 
 another-chunk : (chain : List Filled) (place : Place)
     → ((f : Filled) → last_of chain ≡ Some f → same_chunk f.chunk place.chunk ≡ false)
-    → chunks_of (with_place chain place) ≡ chunks_of chain ++ place.chunk ∷ []
+    → chain_chunks (with_place chain place) ≡ chain_chunks chain ++ place.chunk ∷ []
 another-chunk [] place other = refl
 another-chunk (g ∷ []) place other =
-    ap (λ t. chunks_of (cond t (record { chunk = g.chunk; used = g.used + place.words } ∷ [])
+    ap (λ t. chain_chunks (cond t (record { chunk = g.chunk; used = g.used + place.words } ∷ [])
     (g ∷ record { chunk = place.chunk; used = place.words } ∷ []))) (other g refl)
 another-chunk (g ∷ h ∷ rest) place other =
     ap (λ l. g.chunk ∷ l) (another-chunk (h ∷ rest) place other)
@@ -125,19 +126,20 @@ some-used c (r ∷ classes) s words m is =
         absurd (cc)
     by_test rest false e (inr later) = rest later
 
--- the chain of a loader goes with these rows
-record GoesOn (u : ℕ) (rows : List BareRow) : Type 0 where
+-- the chain of a loader matches these rows
+record ChainFollows (u : ℕ) (rows : List BareRow) : Type 0 where
   top : EndsAtTop u rows
-  chunks : chunks_of (chain_from [] u (classes_in rows)) ≡ chunks_begun u (classes_in rows)
+  chunks : chain_chunks (chain_from [] u (classes_in rows)) ≡ chunks_begun u (classes_in rows)
   words : HasWords (classes_in rows)
 
-loader-kept : (u : ℕ) (pre : List BareRow) (r : LoaderRow) → GoesOn u pre
-    → GoesOn u (pre ++ Loader r ∷ [])
+loader-kept : (u : ℕ) (pre : List BareRow) (r : LoaderRow) → ChainFollows u pre
+    → ChainFollows u (pre ++ Loader r ∷ [])
 loader-kept u pre r before =
     let same = sym (classes_in-append pre (Loader r ∷ []) ∙ append-nil (classes_in pre)) in
     record {
       top = same-classes u pre (pre ++ Loader r ∷ []) same before.top;
-      chunks = subst (λ (l : List ClassRow). chunks_of (chain_from [] u l) ≡ chunks_begun u l) same
+      chunks = subst (λ (l : List ClassRow). chain_chunks (chain_from [] u l)
+          ≡ chunks_begun u l) same
           before.chunks;
       words = subst HasWords same before.words;
     }
@@ -155,10 +157,10 @@ more-words pre r words some s m =
     by_end (t ∷ classes) words (inl e) = words s (inl e)
     by_end (t ∷ classes) words (inr later) = by_end classes (λ v n. words v (inr n)) later
 
--- what a class more of the loader begins
+-- what one more class of the loader begins
 own-chunks : (u : ℕ) (pre : List BareRow) (r : ClassRow) → r.loader ≡ u → has_place pre r ≡ true
-    → GoesOn u pre
-    → chunks_of (with_place (chain_of u pre) r.place)
+    → ChainFollows u pre
+    → chain_chunks (with_place (chain_of u pre) r.place)
     ≡ chunks_begun u (classes_in pre) ++ cond (eqb r.place.offset 0) (r.place.chunk ∷ []) []
 own-chunks u pre r mine place before = by_place (or_cases on_top new place)
   where
@@ -194,7 +196,7 @@ own-chunks u pre r mine place before = by_place (or_cases on_top new place)
             ∙ never-on r.place.chunk (classes_in pre) unused row.0 row.1
 
     by_place : (on_top ≡ true) ⊎ (new ≡ true)
-        → chunks_of (with_place (chain_of u pre) r.place)
+        → chain_chunks (with_place (chain_of u pre) r.place)
         ≡ begun ++ cond (eqb r.place.offset 0) (r.place.chunk ∷ []) []
     by_place (inl h) =
         let parts = and_parts (is_last_chunk r.loader r.place.chunk pre)
@@ -218,8 +220,8 @@ own-chunks u pre r mine place before = by_place (or_cases on_top new place)
 class-kept : (sizes : Sizes) (u : ℕ) (pre : List BareRow) (r : ClassRow)
     → broken_of (is_live r.loader pre && has_room sizes pre (Class r tt)) (class_fits sizes pre r)
     ≡ None
-    → AreApart (classes_in (pre ++ Class r (tt {0}) ∷ [])) → GoesOn u pre
-    → GoesOn u (pre ++ Class r (tt {0}) ∷ [])
+    → AreApart (classes_in (pre ++ Class r (tt {0}) ∷ [])) → ChainFollows u pre
+    → ChainFollows u (pre ++ Class r (tt {0}) ∷ [])
 class-kept sizes u pre r kept apart before = by_loader (eqb r.loader u) refl
   where
     words : HasWords (classes_in (pre ++ Class r (tt {0}) ∷ []))
@@ -231,14 +233,14 @@ class-kept sizes u pre r kept apart before = by_loader (eqb r.loader u) refl
     begun = ap (chunks_begun u) (classes_in-append pre (Class r tt ∷ [])) ∙ begun-more u
         (classes_in pre) r
 
-    by_loader : (t : Bool) → eqb r.loader u ≡ t → GoesOn u (pre ++ Class r (tt {0}) ∷ [])
+    by_loader : (t : Bool) → eqb r.loader u ≡ t → ChainFollows u (pre ++ Class r (tt {0}) ∷ [])
     by_loader true e =
         let mine = eqb-true r.loader u e in
         let place = place_of sizes pre r kept in
         record {
           top = own_class u pre r mine place before.top;
           chunks =
-              ap chunks_of (chain_grows u pre r mine)
+              ap chain_chunks (chain_grows u pre r mine)
               ∙ (own-chunks u pre r mine place before
               ∙ sym (begun ∙ ap (λ t. chunks_begun u (classes_in pre)
               ++ cond (t && eqb r.place.offset 0) (r.place.chunk ∷ []) []) e));
@@ -248,7 +250,7 @@ class-kept sizes u pre r kept apart before = by_loader (eqb r.loader u) refl
         record {
           top = other_class u pre r e apart before.top;
           chunks =
-              ap chunks_of (chain_stays u pre r e)
+              ap chain_chunks (chain_stays u pre r e)
               ∙ (before.chunks
               ∙ sym (begun ∙ (ap (λ t. chunks_begun u (classes_in pre)
               ++ cond (t && eqb r.place.offset 0) (r.place.chunk ∷ []) []) e
@@ -257,15 +259,17 @@ class-kept sizes u pre r kept apart before = by_loader (eqb r.loader u) refl
         }
 
 goes_on_from : (sizes : Sizes) (n : ℕ) (pre rows : List BareRow) → LiveRowsKeep sizes n pre rows
-    → AreApart (classes_in (pre ++ rows)) → (u : ℕ) → GoesOn u pre → GoesOn u (pre ++ rows)
-goes_on_from sizes n pre [] k apart u before = subst (λ l. GoesOn u l) (sym (append-nil pre)) before
+    → AreApart (classes_in (pre ++ rows)) → (u : ℕ) → ChainFollows u pre
+    → ChainFollows u (pre ++ rows)
+goes_on_from sizes n pre [] k apart u before =
+    subst (λ l. ChainFollows u l) (sym (append-nil pre)) before
 goes_on_from sizes n pre (Loader r ∷ rows) k apart u before =
     let assoc = append_assoc pre (Loader r ∷ []) rows in
-    subst (λ l. GoesOn u l) assoc
+    subst (λ l. ChainFollows u l) assoc
     (goes_on_from sizes n (pre ++ Loader r ∷ []) rows k.2
     (subst (λ l. AreApart (classes_in l)) (sym assoc) apart) u (loader-kept u pre r before))
 goes_on_from sizes n pre (Class r p ∷ rows) k apart u before =
-    subst (λ l. GoesOn u l) assoc
+    subst (λ l. ChainFollows u l) assoc
     (goes_on_from sizes n (pre ++ Class r p ∷ []) rows k.2
     (subst (λ l. AreApart (classes_in l)) (sym assoc) apart) u
     (class-kept sizes u pre r k.1 front_apart before))
@@ -273,7 +277,7 @@ goes_on_from sizes n pre (Class r p ∷ rows) k apart u before =
     assoc : (pre ++ Class r (tt {0}) ∷ []) ++ rows ≡ pre ++ Class r (tt {0}) ∷ rows
     assoc = append_assoc pre (Class r (tt {0}) ∷ []) rows
 
-    -- what is apart in the whole is so in its beginning
+    -- what is apart in the whole is also apart in its beginning
     in-front : (xs ys : List BareRow) (s : ClassRow) → Among s (classes_in xs)
         → Among s (classes_in (xs ++ ys))
     in-front [] ys s none = absurd none
@@ -289,7 +293,7 @@ goes_on_from sizes n pre (Class r p ∷ rows) k apart u before =
         (in-front (pre ++ Class r (tt {0}) ∷ []) rows t mt))
 
 all_go_on : (sizes : Sizes) (n : ℕ) (rows : List BareRow) → LiveRowsKeep sizes n [] rows
-    → AreApart (classes_in rows) → (u : ℕ) → GoesOn u rows
+    → AreApart (classes_in rows) → (u : ℕ) → ChainFollows u rows
 all_go_on sizes n rows k apart u =
     goes_on_from sizes n [] rows k apart u
     (record { top = refl; chunks = refl; words = λ s none. absurd none })
@@ -299,18 +303,19 @@ chains_end_at_top sizes n rows k apart u = (all_go_on sizes n rows k apart u).to
 
 pub chains_are_begun : (sizes : Sizes) (n : ℕ) (rows : List BareRow) → LiveRowsKeep sizes n [] rows
     → AreApart (classes_in rows) → (u : ℕ)
-    → chunks_of (chain_of u rows) ≡ chunks_begun u (classes_in rows)
+    → chain_chunks (chain_of u rows) ≡ chunks_begun u (classes_in rows)
 chains_are_begun sizes n rows k apart u = (all_go_on sizes n rows k apart u).chunks
 
 -- ---- chunks
 
-placed-kept : (chain : List Filled) (place : Place) (c : Chunk) → Among c (chunks_of chain)
-    → Among c (chunks_of (with_place chain place))
+placed-kept : (chain : List Filled) (place : Place) (c : Chunk) → Among c (chain_chunks chain)
+    → Among c (chain_chunks (with_place chain place))
 placed-kept [] place c none = absurd none
 placed-kept (f ∷ []) place c m = by_test (same_chunk f.chunk place.chunk) m
   where
     by_test : (t : Bool) → Among c (f.chunk ∷ [])
-        → Among c (chunks_of (cond t (record { chunk = f.chunk; used = f.used + place.words } ∷ [])
+        → Among c (chain_chunks
+        (cond t (record { chunk = f.chunk; used = f.used + place.words } ∷ [])
         (f ∷ record { chunk = place.chunk; used = place.words } ∷ [])))
     by_test true m = m
     by_test false (inl e) = inl e
@@ -319,12 +324,12 @@ placed-kept (f ∷ g ∷ rest) place c (inl e) = inl e
 placed-kept (f ∷ g ∷ rest) place c (inr m) = inr (placed-kept (g ∷ rest) place c m)
 
 placed-new : (chain : List Filled) (place : Place)
-    → Among place.chunk (chunks_of (with_place chain place))
+    → Among place.chunk (chain_chunks (with_place chain place))
 placed-new [] place = inl refl
 placed-new (f ∷ []) place = by_test (same_chunk f.chunk place.chunk) refl
   where
     by_test : (t : Bool) → same_chunk f.chunk place.chunk ≡ t
-        → Among place.chunk (chunks_of
+        → Among place.chunk (chain_chunks
         (cond t (record { chunk = f.chunk; used = f.used + place.words } ∷ [])
         (f ∷ record { chunk = place.chunk; used = place.words } ∷ [])))
     by_test true e = inl (sym (same_chunk-true f.chunk place.chunk e))
@@ -332,40 +337,41 @@ placed-new (f ∷ []) place = by_test (same_chunk f.chunk place.chunk) refl
 placed-new (f ∷ g ∷ rest) place = inr (placed-new (g ∷ rest) place)
 
 still-there : (chain : List Filled) (u : ℕ) (classes : List ClassRow) (c : Chunk)
-    → Among c (chunks_of chain) → Among c (chunks_of (chain_from chain u classes))
+    → Among c (chain_chunks chain) → Among c (chain_chunks (chain_from chain u classes))
 still-there chain u [] c m = m
 still-there chain u (r ∷ classes) c m =
     by_test (eqb r.loader u)
     (still-there (with_place chain r.place) u classes c (placed-kept chain r.place c m))
     (still-there chain u classes c m)
   where
-    by_test : (t : Bool) → Among c (chunks_of (chain_from (with_place chain r.place) u classes))
-        → Among c (chunks_of (chain_from chain u classes))
-        → Among c (chunks_of (cond t (chain_from (with_place chain r.place) u classes)
+    by_test : (t : Bool) → Among c (chain_chunks (chain_from (with_place chain r.place) u classes))
+        → Among c (chain_chunks (chain_from chain u classes))
+        → Among c (chain_chunks (cond t (chain_from (with_place chain r.place) u classes)
         (chain_from chain u classes)))
     by_test true here there = here
     by_test false here there = there
 
 has_chunk : (chain : List Filled) (classes : List ClassRow) (r : ClassRow) → Among r classes
-    → Among r.place.chunk (chunks_of (chain_from chain r.loader classes))
+    → Among r.place.chunk (chain_chunks (chain_from chain r.loader classes))
 has_chunk chain [] r none = absurd none
 has_chunk chain (s ∷ classes) r (inl e) =
     let own : eqb s.loader r.loader ≡ true =
     ap (λ (t : ClassRow). eqb t.loader r.loader) (sym e) ∙ eq-eqb r.loader r.loader refl in
-    subst (λ (t : Bool). Among r.place.chunk (chunks_of (cond t
+    subst (λ (t : Bool). Among r.place.chunk (chain_chunks (cond t
     (chain_from (with_place chain s.place) r.loader classes) (chain_from chain r.loader classes))))
     (sym own)
     (still-there (with_place chain s.place) r.loader classes r.place.chunk
-    (subst (λ (t : ClassRow). Among r.place.chunk (chunks_of (with_place chain t.place))) e
+    (subst (λ (t : ClassRow). Among r.place.chunk (chain_chunks (with_place chain t.place))) e
     (placed-new chain r.place)))
 has_chunk chain (s ∷ classes) r (inr m) =
     by_test (eqb s.loader r.loader) (has_chunk (with_place chain s.place) classes r m)
     (has_chunk chain classes r m)
   where
     by_test : (t : Bool)
-        → Among r.place.chunk (chunks_of (chain_from (with_place chain s.place) r.loader classes))
-        → Among r.place.chunk (chunks_of (chain_from chain r.loader classes))
-        → Among r.place.chunk (chunks_of
+        → Among r.place.chunk
+        (chain_chunks (chain_from (with_place chain s.place) r.loader classes))
+        → Among r.place.chunk (chain_chunks (chain_from chain r.loader classes))
+        → Among r.place.chunk (chain_chunks
         (cond t (chain_from (with_place chain s.place) r.loader classes)
         (chain_from chain r.loader classes)))
     by_test true here there = here

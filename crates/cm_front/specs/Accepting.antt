@@ -10,17 +10,17 @@ use Rattle.cm_layout.specs.declared.entry.Entry.TheVariants as entry
 use Rattle.cm_layout.specs.Rows.{number_of, rows_after, group_limit}
 use Rattle.cm_group.specs.Groups.{Carried, Handed, next_number, slots_taken, moved_with}
 use Rattle.cm_space.specs.Space.{SpaceState, arena_of, with_arena, left_by, left_by_all, learnt}
-use Rattle.cm_space.specs.Tightening.{Moves}
+use Rattle.cm_space.specs.Tightening.{MovesChunk}
 use Rattle.cm_state.specs.State.{words_show}
 use Rattle.cm_state.specs.Step.{Change, AddLoader, Define, Unload, Tighten, UnloadAll}
 use Rattle.cm_state.specs.Entries.{MayFollow, change_of}
-use Rattle.cm_prepare.specs.declared.refusal.Refusal.{Refusal}
-use Rattle.cm_prepare.specs.declared.refusal.Refusal.TheVariants as refusal
+use Rattle.cm_commands.specs.declared.refusal.Refusal.{Refusal}
+use Rattle.cm_commands.specs.declared.refusal.Refusal.TheVariants as refusal
 use Rattle.cm_front.specs.Front.{FrontState, first_refusal}
 
 -- ---- accepting
 
--- an entry with the records that it writes, where these rows live before it
+-- an entry with the records that it writes, if these rows are live before it
 abbrev pub carried : List (Row (List ℕ)) → Entry (List ℕ) → Carried
 carried rows e = record { entry = e; moved = moved_with rows e }
 
@@ -28,14 +28,15 @@ carried rows e = record { entry = e; moved = moved_with rows e }
 abbrev pub begun_by : ℕ → Carried → Handed
 begun_by n c = record { first = n; learnt = 0; entries = c ∷ [] }
 
-abbrev pub with_entry : Handed → Carried → Handed
-with_entry group c = record group { entries = group.entries ++ c ∷ [] }
+abbrev pub with_carried : Handed → Carried → Handed
+with_carried group c = record group { entries = group.entries ++ c ∷ [] }
 
--- the entry of this number joins the newest group while that has slots for it, else begins one
+-- the entry of this number joins the newest group as long as that has slots for it, and otherwise
+-- begins one
 abbrev pub joined_by : ℕ → List Handed → Carried → List Handed
 joined_by n [] c = begun_by n c ∷ []
 joined_by n (group ∷ []) c =
-    if nat_le (slots_taken (group.entries ++ c ∷ [])) group_limit then with_entry group c ∷ []
+    if nat_le (slots_taken (group.entries ++ c ∷ [])) group_limit then with_carried group c ∷ []
     else group ∷ begun_by n c ∷ []
 joined_by n (group ∷ next ∷ groups) c = group ∷ joined_by n (next ∷ groups) c
 
@@ -49,10 +50,10 @@ SpaceAfter s (entry.Live (Class r words)) new =
     × (new ≡ record (with_arena s.space r.loader (arena_of new r.loader)) { pool = new.pool })
 SpaceAfter s (entry.Unload e) new = new ≡ left_by s.space (s.number + 1) e.loader
 SpaceAfter s (entry.Move e) new =
-    Moves s.space e.loader (s.number + 1) (record { from = e.from; to = e.to }) new
+    MovesChunk s.space e.loader (s.number + 1) (record { from = e.from; to = e.to }) new
 SpaceAfter s (entry.UnloadAll e) new = new ≡ left_by_all s.space (s.number + 1) e.loaders
 
--- the cache with one entry more
+-- the cache with one more entry
 abbrev pub accepted : FrontState → Entry (List ℕ) → SpaceState → FrontState
 accepted s e space =
     record s {
@@ -84,7 +85,7 @@ HasNoChunk s (Tighten x) =
     (u : ℕ) × (number_of x s.rows ≡ Some u) × IsTight (arena_of s.space u) s.space.pool
 HasNoChunk s (UnloadAll xs) = ⊥
 
--- the refusal then
+-- the refusal in that case
 abbrev pub refusal_of_chunk : Change (List ℕ) → Refusal
 refusal_of_chunk (AddLoader x) = refusal.RegionFull
 refusal_of_chunk (Define x words) = refusal.RegionFull
@@ -92,8 +93,8 @@ refusal_of_chunk (Unload x) = refusal.RegionFull
 refusal_of_chunk (Tighten x) = refusal.NoMove
 refusal_of_chunk (UnloadAll xs) = refusal.RegionFull
 
--- The refusal is the first that applies; that there is no chunk, or that an allocation failed, is
--- told only where none of the others applies, and the latter only where there is a chunk.
+-- The refusal is the first that applies. That there is no chunk, or that an allocation failed, is
+-- returned only if none of the others applies, and the latter only if there is a chunk.
 abbrev pub IsReason : FrontState → Change (List ℕ) → Refusal → Type 0
 IsReason s change r =
     (first_refusal s change ≡ Some r)
@@ -108,7 +109,7 @@ FrontAnswers s change (Err r) new = (new ≡ s) × IsReason s change r
 
 -- ---- handing out and learning
 
--- the oldest group goes, with what is learnt by now
+-- the oldest group is handed out, with what is learnt by now
 pub record HandsOut (s : FrontState) (group : Handed) (new : FrontState) : Type 0 where
   pub oldest : Handed
   pub rest : List Handed
@@ -120,7 +121,8 @@ abbrev pub Seals : FrontState → Option Handed → FrontState → Type 0
 Seals s None new = (s.unsealed ≡ []) × (new ≡ s)
 Seals s (Some group) new = HandsOut s group new
 
--- the learnt number rises to that of the receipt, and what waits for at most it is free
+-- the learnt number rises to that of the receipt, and whatever waits for a number up to this is
+-- freed
 abbrev pub with_learnt : FrontState → ℕ → FrontState
 with_learnt s number =
     record s { learnt = max s.learnt number; space = learnt s.space (max s.learnt number) }

@@ -1,5 +1,5 @@
--- The arena that rows make of a loader: each class's record goes on where the one before it ends,
--- or begins a chunk.
+-- The arena that rows give a loader: each class's record follows the one before it, or begins a
+-- chunk.
 use Rattle.std.specs.Prelude.{ℕ, ◌==◌, if◌then◌else◌, List, [], ◌∷◌, Option}
 use Rattle.std.specs.Option.{option_map}
 use Rattle.cm_arena.specs.Chains.{Filled}
@@ -8,7 +8,7 @@ use Rattle.cm_layout.specs.declared.class_row.ClassRow.{ClassRow}
 use Rattle.cm_layout.specs.declared.row.Row.{Row}
 use Rattle.cm_layout.specs.Rows.{classes_in, last_chunk, used_words}
 
--- a loader's chain behind one that it has, with the places of its classes in order
+-- a loader's chain after one that it has, with the places of its classes in order
 abbrev pub chain_from : List Filled → ℕ → List ClassRow → List Filled
 chain_from chain u [] = chain
 chain_from chain u (r ∷ rows) =

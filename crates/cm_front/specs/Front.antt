@@ -1,4 +1,4 @@
--- What the accepted cache is seen as, and what is true of it between two calls.
+-- How contracts describe the accepted cache, and what holds of it between two calls.
 use Rattle.std.specs.Prelude.{◌≡◌, ℕ, ◌+◌, ◌^◌, ◌<◌, ◌≤◌, ◌↔◌, Bool, true, List, [], ◌∷◌, Option}
 use Rattle.std.specs.Prelude.{Some, None, Ok, Err, if◌then◌else◌, refl}
 use Rattle.std.specs.List.{AllByRecursion}
@@ -13,17 +13,18 @@ use Rattle.cm_rows.specs.Rows.{LiveRows}
 use Rattle.cm_state.specs.State.{words_show, state_of}
 use Rattle.cm_state.specs.Step.{Change, step}
 use Rattle.cm_state.specs.Entries.{AreCacheRows}
-use Rattle.cm_prepare.specs.declared.refusal.Refusal.{Refusal}
-use Rattle.cm_prepare.specs.declared.refusal.Refusal.TheVariants as refusal
-use Rattle.cm_prepare.specs.Refusals.{refusal_of}
-use Rattle.cm_front.specs.Laws.{SpaceGoesWith}
+use Rattle.cm_commands.specs.declared.refusal.Refusal.{Refusal}
+use Rattle.cm_commands.specs.declared.refusal.Refusal.TheVariants as refusal
+use Rattle.cm_commands.specs.Refusals.{refusal_of}
+use Rattle.cm_front.specs.Laws.{SpaceMatches}
 use Rattle.cm_front.specs.Unsealed.{WaitingGroups, Follow}
 
 pub record FrontState : Type 0 where
   pub sizes : Sizes
   -- each class with the words of its record
   pub rows : List (Row (List ℕ))
-  -- of the last accepted command, of the last one handed out, of the last one known to be stored
+  -- the numbers of the last accepted command, of the last one handed out, and of the last one known
+  -- to be durable
   pub number : ℕ
   pub sealed : ℕ
   pub learnt : ℕ
@@ -50,7 +51,7 @@ front_of book space unsealed number sealed learnt broken closed =
     }
 
 -- a value of this kind as data: what has a code of its own, and the space
-pub record Parts : Type 0 where
+pub record FrontParts : Type 0 where
   pub sizes : Sizes
   pub rows : List (Row (List ℕ))
   pub number : ℕ
@@ -60,12 +61,12 @@ pub record Parts : Type 0 where
   pub broken : Bool
   pub closed : Bool
 
-pub parts_code : Coded Parts
+pub parts_code : Coded FrontParts
 parts_code = Prim.hlevel codes
 
 abbrev pub front_code : Coded FrontState
 front_code =
-    code_by (Parts × SpaceState) (coded× parts_code state_code)
+    code_by (FrontParts × SpaceState) (coded× parts_code state_code)
     (λ s. (
       record {
         sizes = s.sizes;
@@ -92,18 +93,18 @@ front_code =
     })
     (λ _. refl)
 
--- what waits, waits for a number that isn't learnt and was given
+-- waiting chunks wait for a number that is given, but not learnt yet
 pub record IsDueLater (learnt number : ℕ) (w : WaitingChunks) : Type 0 where
   pub from : learnt < w.number
   pub to : w.number ≤ number
 
 -- The rows are a cache's; the arenas are those of the rows, one for each live loader; and the
--- commands that aren't handed out have the numbers behind those that are.
+-- commands that aren't handed out have the numbers after those that are.
 pub record IsFront (s : FrontState) : Type 0 where
   pub lawful : IsGeometry s.sizes
   pub rows : AreCacheRows words_show s.sizes s.number s.rows
   pub right : AreRight s.rows
-  pub space : SpaceGoesWith s.sizes (bare s.rows) s.space
+  pub space : SpaceMatches s.sizes (bare s.rows) s.space
   pub known : (u : ℕ) → IsKnown s.space u ↔ (is_live u s.rows ≡ true)
   pub waiting : AllByRecursion (IsDueLater s.learnt s.number) s.space.waiting
   pub learnt : s.learnt ≤ s.sealed
@@ -112,8 +113,8 @@ pub record IsFront (s : FrontState) : Type 0 where
 
 -- ---- refusals
 
--- the first refusal that applies, in the order in which they are looked for, but for want of room
--- in the region and of memory
+-- the first refusal that applies, in the order of the checks, except for lack of room in the region
+-- and failed allocations
 abbrev pub first_refusal : FrontState → Change (List ℕ) → Option Refusal
 first_refusal s change =
     if s.closed then Some refusal.Closed

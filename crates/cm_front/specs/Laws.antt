@@ -1,10 +1,10 @@
--- How arenas go with rows.
+-- How arenas match rows.
 use Rattle.std.specs.Prelude.{◌≡◌, ℕ, ◌≤◌, List, [], ◌∷◌, ◌++◌, true}
 use Rattle.cm_pool.specs.Geometry.{Sizes}
 use Rattle.cm_pool.specs.FreeSpace.{FreeSpace, IsFreeSpace}
 use Rattle.cm_pool.specs.Lists.{Among}
 use Rattle.cm_pool.specs.declared.place.Place.{Place}
-use Rattle.cm_arena.specs.Chains.{Filled, chunks_of, last_of}
+use Rattle.cm_arena.specs.Chains.{Filled, chain_chunks, last_of}
 use Rattle.cm_arena.specs.Placing.{Places}
 use Rattle.cm_space.specs.Space.{SpaceState, arena_of}
 use Rattle.cm_space.specs.Ownership.{IsSpace}
@@ -25,17 +25,17 @@ ChainsEndAtTop =
 abbrev pub ChainsHaveChunks : Type 0
 ChainsHaveChunks =
     (rows : List BareRow) (r : ClassRow) → Among r (classes_in rows)
-    → Among r.place.chunk (chunks_of (chain_of r.loader rows))
+    → Among r.place.chunk (chain_chunks (chain_of r.loader rows))
 
 -- A space whose arenas are those of the rows.
-pub record SpaceGoesWith (sizes : Sizes) (rows : List BareRow) (space : SpaceState) : Type 0 where
+pub record SpaceMatches (sizes : Sizes) (rows : List BareRow) (space : SpaceState) : Type 0 where
   pub is : IsSpace space
   pub pool : IsFreeSpace space.pool
   pub geometry : space.pool.geometry ≡ sizes
   pub chains : (u : ℕ) → arena_of space u ≡ chain_of u rows
 
--- Where such a space finds a place, a class's row with this place keeps the rules on chunks, and
--- the loader's chain is then that of the rows with it.
+-- If such a space finds a place, a class's row with this place keeps the rules on chunks, and the
+-- loader's chain is then that of the rows with it.
 pub record IsPlaceOf (sizes : Sizes) (rows : List BareRow) (u words : ℕ) (place : Place)
     (chain : List Filled) : Type 0 where
   pub amount : place.words ≡ words
@@ -47,6 +47,6 @@ abbrev pub PlacesKeepRules : Type 0
 PlacesKeepRules =
     (sizes : Sizes) (n : ℕ) (rows : List BareRow) (space : SpaceState) (u words : ℕ) (place : Place)
     (chain : List Filled) (left : FreeSpace) → LiveRowsKeep sizes n [] rows
-    → AreApart (classes_in rows) → SpaceGoesWith sizes rows space → 1 ≤ words
+    → AreApart (classes_in rows) → SpaceMatches sizes rows space → 1 ≤ words
     → Places (arena_of space u) space.pool words place chain left
     → IsPlaceOf sizes rows u words place chain

@@ -1,4 +1,4 @@
--- The causes against a command as they are looked for: by names in the rows.
+-- The causes against a command in the order of the checks: by names in the rows.
 use Rattle.std.specs.Prelude.{ℕ, suc, ◌==◌, Bool, not, nat_lt, if◌then◌else◌, List, [], ◌∷◌}
 use Rattle.std.specs.Prelude.{length, Option, Some, None, is_some, Result, Ok, Err}
 use Rattle.std.specs.List.{list_all}
@@ -11,8 +11,8 @@ use Rattle.cm_layout.specs.Rules.{is_too_much}
 use Rattle.cm_record.specs.Names.{class_name_in}
 use Rattle.cm_index.specs.Index.{class_of}
 use Rattle.cm_state.specs.Step.{last_number, is_list}
-use Rattle.cm_prepare.specs.declared.refusal.Refusal.{Refusal}
-use Rattle.cm_prepare.specs.declared.refusal.Refusal.TheVariants as refusal
+use Rattle.cm_commands.specs.declared.refusal.Refusal.{Refusal}
+use Rattle.cm_commands.specs.declared.refusal.Refusal.TheVariants as refusal
 use Rattle.cm_arena.specs.declared.refusal.PlaceRefusal.{PlaceRefusal}
 use Rattle.cm_arena.specs.declared.refusal.PlaceRefusal.TheVariants as of_place
 use Rattle.cm_front.specs.Front.{FrontState}
@@ -24,7 +24,7 @@ loader_asked s x =
     else if s.number == last_number then Err refusal.NumbersSpent
     else elim (number_of x s.rows) [ Some u ↦ Ok u | None ↦ Err refusal.NoLoader ]
 
--- the numbers of the live loaders of these names, where each of them has one
+-- the numbers of the live loaders of these names, if each of them has one
 abbrev pub numbers_of : {A : Type 0} → List (List ℕ) → List (Row A) → Option (List ℕ)
 numbers_of [] rows = Some []
 numbers_of (x ∷ xs) rows =
@@ -38,7 +38,7 @@ loaders_asked s xs =
     else if s.number == last_number then Err refusal.NumbersSpent
     else elim (numbers_of xs s.rows) [ Some us ↦ Ok us | None ↦ Err refusal.NoLoader ]
 
--- no slots are left beside the loaders and classes that live for what needs so many
+-- fewer than `need` slots are left beside the live loaders and classes
 abbrev pub journal_full : FrontState → ℕ → Bool
 journal_full s need = is_too_much s.sizes (slots_of_rows s.rows) need
 

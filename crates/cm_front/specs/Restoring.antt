@@ -1,4 +1,4 @@
--- How a cache is made of the rows that a file frames.
+-- How a cache is made from the rows that a file frames.
 use Rattle.std.specs.Prelude.{◌≡◌, ℕ, ◌+◌, ◌↔◌, max, true, false, List, [], ◌∷◌, ◌++◌}
 use Rattle.cm_pool.specs.Geometry.{Sizes}
 use Rattle.cm_pool.specs.FreeSpace.{IsFreeSpace}
@@ -11,7 +11,7 @@ use Rattle.cm_rows.specs.Rows.{LiveRows}
 use Rattle.cm_space.specs.Space.{SpaceState, IsKnown, arena_of, with_arena}
 use Rattle.cm_space.specs.Adopting.{IsAdoptable, adopted}
 use Rattle.cm_space.specs.Ownership.{IsSpace}
-use Rattle.cm_front.specs.Laws.{SpaceGoesWith}
+use Rattle.cm_front.specs.Laws.{SpaceMatches}
 use Rattle.cm_front.specs.Front.{FrontState}
 
 -- one more than the greatest root that a row uses, or none
@@ -23,12 +23,12 @@ roots_of (r ∷ rows) = max (r.place.chunk.root + 1) (roots_of rows)
 -- than rows use
 pub record IsSpaceOf (sizes : Sizes) (rows : List (Row (List ℕ)))
     (space : SpaceState) : Type 0 where
-  pub goes : SpaceGoesWith sizes (bare rows) space
+  pub matches : SpaceMatches sizes (bare rows) space
   pub known : (u : ℕ) → IsKnown space u ↔ (is_live u rows ≡ true)
   pub waiting : space.waiting ≡ []
   pub roots : space.pool.roots ≡ roots_of (classes_in rows)
 
--- ---- one row more
+-- ---- one more row
 
 abbrev pub CanTake : Row (List ℕ) → SpaceState → Type 0
 CanTake (Loader r) space = ¬ IsKnown space r.number
@@ -39,7 +39,7 @@ abbrev pub taken_by : Row (List ℕ) → SpaceState → SpaceState
 taken_by (Loader r) space = with_arena space r.number []
 taken_by (Class r words) space = adopted space r.loader r.place
 
-pub record Takes (row : Row (List ℕ)) (old new : SpaceState) : Type 0 where
+pub record RestoresRow (row : Row (List ℕ)) (old new : SpaceState) : Type 0 where
   pub after : new ≡ taken_by row old
   pub is : IsSpace new
   pub pool : IsFreeSpace new.pool
@@ -53,7 +53,7 @@ pub record IsOnTheWay (sizes : Sizes) (rows rest : List (Row (List ℕ)))
 
 -- ---- the cache
 
--- everything is stored, and nothing is to be handed out
+-- everything is durable, and nothing is to be handed out
 pub record Restores (book : LiveRows (List ℕ)) (number : ℕ) (front : FrontState) : Type 0 where
   pub space : IsSpaceOf book.sizes book.rows front.space
   pub front_is : front ≡ record {

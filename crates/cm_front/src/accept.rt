@@ -1,4 +1,4 @@
-//! Accepting commands.
+//! Accepts commands.
 
 ghost use Rattle.std.specs.Prelude.{◌≡◌, false, true, map, Some};
 ghost use Rattle.std.specs.Prelude.{IfOk, OnOk};
@@ -8,7 +8,7 @@ ghost use Rattle.cm_layout.specs.Rows.{classes_in, kept_on, last_chunk};
 ghost use Rattle.cm_layout.specs.Names.{is_loader_name};
 ghost use Rattle.cm_layout.specs.declared.entry.Entry.TheVariants as variant;
 ghost use Rattle.cm_layout.specs.declared.row.Row.TheVariants.{Loader, Class};
-ghost use Rattle.cm_prepare.specs.Commands.{change_asked};
+ghost use Rattle.cm_commands.specs.Commands.{change_asked};
 ghost use Rattle.cm_state.specs.Step.{AddLoader, Define, Unload as UnloadOf, Tighten};
 ghost use Rattle.cm_state.specs.Step.{UnloadAll as UnloadAllOf};
 ghost use Rattle.cm_front.specs.Accepting.{FrontAnswers};
@@ -18,29 +18,29 @@ use crate::front::Front;
 use crate::laws::places_keep_rules;
 use crate::unsealed::Unsealed;
 use cm_arena::{Moved, PlaceRefusal};
+use cm_commands::{Command, Names, Prepared, Refusal};
 use cm_group::{CarriedEntry, MovedRecords};
 use cm_layout::{
     ClassRow, Entry, LoaderRow, Move, Row, SlotName, Unload, UnloadAll, loaders_are_own,
 };
-use cm_prepare::{Command, Names, Prepared, Refusal};
 use cm_record::Record;
-use cm_rows::{Book, LastKept};
+use cm_rows::{LastKept, LiveRows};
 use cm_space::{chunks_are_apart, held_chunks_are_used};
 use cm_state::{entries_are_steps, rows_tell_state};
 use std::alloc::{AllocError, Global};
 use std::sync::Arc;
 
 impl Front {
-    /// Accepts a command and gives it the next number. It joins the newest group that isn't handed
-    /// out, while that has slots for it.
+    /// Accepts a command and gives it the next number. The command joins the newest group that
+    /// isn't handed out, as long as that has slots for it.
     ///
-    /// The refusals are looked for in this order: `Closed`, `Broken`, `BadList`, `BadName`,
+    /// The refusals are checked in this order: `Closed`, `Broken`, `BadList`, `BadName`,
     /// `NumbersSpent`, `LoaderExists` or `NoLoader`, `ClassExists`, `RecordTooLong`, `JournalFull`,
-    /// `RegionFull` or `NoMove`; `NoMemory` is returned only where none of these applies. Of
-    /// several loaders, `BadName` and `NoLoader` come for any of them. `JournalFull` says that the
-    /// loaders and classes would take more slots than they may, half of those that a half of the
-    /// journal has, so no unload meets it. A refused command takes no number and leaves all as it
-    /// was.
+    /// `RegionFull` or `NoMove`; `NoMemory` is returned only if none of these applies. For several
+    /// loaders, `BadName` and `NoLoader` are returned if they apply to any of them. `JournalFull`
+    /// says that the loaders and classes would take more slots than they may, half of those that a
+    /// half of the journal has, so no unload is refused with it. A refused command takes no number
+    /// and leaves everything as it was.
     pub fn accept(&mut self, command: Command<'_>) -> Result<u64, Refusal>
         ensures { FrontAnswers self.old (change_asked command.entry) result self.new }
     {
@@ -54,15 +54,15 @@ impl Front {
             Command::AddLoader(name) => self.add_loader(name),
             Command::Define(name, class) => self.define(name, class),
             Command::Unload(name) => self.unload(name),
-            Command::Tighten(name) => self.move_down(name),
+            Command::Tighten(name) => self.tighten_chunk(name),
             Command::UnloadAll(names) => self.unload_all(&names),
         }
     }
 
     /// Moves the records on a loader's last chunk, as [`accept`](Front::accept) of a
-    /// [`Command::Tighten`] does: at the same offsets to the least block that holds them, where
-    /// that is smaller or lies before. The loaders and classes stay as they are, and no root is
-    /// added. The chunk that is left waits for the command's number.
+    /// [`Command::Tighten`] does: at the same offsets, to the least block that holds them, if that
+    /// is smaller or lies before. The loaders and classes stay as they are, and no root is added.
+    /// The chunk that is left waits for the command's number.
     pub fn tighten(&mut self, name: &[u8]) -> Result<u64, Refusal>
         ensures { FrontAnswers self.old (Tighten name.now) result self.new }
     {
@@ -161,7 +161,7 @@ impl Front {
         Ok(number)
     }
 
-    fn move_down(&mut self, name: &[u8]) -> Result<u64, Refusal>
+    fn tighten_chunk(&mut self, name: &[u8]) -> Result<u64, Refusal>
         requires running { self.old.closed ≡ false }
         requires whole { self.old.broken ≡ false }
         ensures { FrontAnswers self.old (Tighten name.now) result self.new }
@@ -185,16 +185,16 @@ impl Front {
         let entry = move_entry(loader, moved);
         let _rule = self.book.apply(number, Entry::Move(entry)); // it breaks none
         self.unsealed
-            .join(number, CarriedEntry::relocation(entry, records));
+            .join(number, CarriedEntry::of_move(entry, records));
         self.number = number;
         Ok(number)
     }
 }
 
-// The records on a loader's last chunk, in order; none where it has no class.
+// The records on a loader's last chunk, in order; none if it has no class.
 fn records_on_last(
     alloc: Global,
-    book: &Book<Prepared>,
+    book: &LiveRows<Prepared>,
     loader: u64,
 ) -> Result<MovedRecords, AllocError>
     ensures { IfOk result (λ moved. (c : Chunk)
@@ -232,7 +232,7 @@ fn move_entry(loader: u64, moved: Moved) -> Move
     }
 }
 
-// The room that a class takes in its group, and the class once more.
+// Reserves the room that a class takes in its group, and shares the class once more.
 fn room_for(unsealed: &mut Unsealed, class: &Prepared) -> Result<Prepared, AllocError>
     ensures groups { unsealed.new.groups ≡ unsealed.old.groups }
     ensures ready { OnOk result (unsealed.new.is_ready ≡ true) }
@@ -257,7 +257,7 @@ fn loader_entry(number: u64, name: &[u8]) -> Entry<Prepared>
     Entry::Live(Row::Loader(loader_row(number, name)))
 }
 
-// A place is never refused for the record's length, which was looked at before.
+// A place is never refused for the record's length, which was checked before.
 fn refusal_of_place(refusal: PlaceRefusal) -> Refusal
     ensures { result ≡ refusal_of_place refusal }
 {

@@ -1,4 +1,4 @@
-//! What stands against a command, by the names in the rows.
+//! Which refusals apply to a command, by the names in the rows.
 
 ghost use Rattle.std.specs.Prelude.{◌≡◌, ◌≤◌, length, map};
 ghost use Rattle.cm_layout.specs.Names.{unload_limit};
@@ -7,12 +7,11 @@ ghost use Rattle.cm_front.specs.Refusing.{numbers_of, loaders_asked};
 
 use crate::front::Front;
 use crate::name_list::{are_loader_names, is_list};
+use cm_commands::{Names, Prepared, Refusal};
 use cm_layout::{LAST_NUMBER, LoaderNumbers, UNLOAD_LIMIT, is_loader_name, slots_of_name};
-use cm_prepare::{Names, Prepared, Refusal};
 
 impl Front {
-    /// Whether too few slots are left beside the loaders and classes that live for what needs so
-    /// many.
+    /// Whether fewer than `need` slots are left beside the live loaders and classes.
     fn is_journal_full(&self, need: usize) -> bool
         ensures { result ≡ journal_full self.now need }
     {
@@ -49,7 +48,7 @@ impl Front {
         self.numbers_of(names).ok_or(Refusal::NoLoader)
     }
 
-    // The numbers of the live loaders of these names, where each of them has one.
+    // The numbers of the live loaders of these names, if each of them has one.
     fn numbers_of(&self, names: &[&[u8]]) -> Option<LoaderNumbers>
         requires some { 1 ≤ length names.now }
         requires few { length names.now ≤ unload_limit }

@@ -5,11 +5,11 @@ ghost use Rattle.std.specs.Option.{option_map};
 ghost use Rattle.std.specs.Arc.{arc_value};
 
 use crate::unsealed::Unsealed;
+use cm_commands::Prepared;
 use cm_group::{Group, Receipt};
 use cm_pool::Geometry;
-use cm_prepare::Prepared;
 use cm_record::Record;
-use cm_rows::Book;
+use cm_rows::LiveRows;
 use cm_space::Space;
 use cm_state::rows_tell_state;
 use std::alloc::Global;
@@ -25,13 +25,13 @@ pub struct Stranger;
 /// The cache as it was accepted: each loader with its classes, where their records lie, and the
 /// commands that are still to be handed to the disk.
 ///
-/// Contracts see the rows that live, each class with the words of its record, the number of the
-/// last command, the space, and what isn't handed out. The loaders and classes are the map of the
-/// rows.
+/// Contracts describe it by the live rows, each class with the words of its record, the number of
+/// the last command, the space, and what isn't handed out. The loaders and classes are the map of
+/// the rows.
 #[derive(Drop)]
 pub struct Front {
     pub(crate) alloc: Global,
-    pub(crate) book: Book<Prepared>,
+    pub(crate) book: LiveRows<Prepared>,
     pub(crate) space: Space,
     pub(crate) unsealed: Unsealed,
     pub(crate) number: u64,
@@ -85,7 +85,8 @@ impl Front {
     }
 
     /// The record of the class of a name in the loader of a name, as accepted, whether or not it is
-    /// stored; also after a failure of the device, and once the cache is closed. Takes no memory.
+    /// durable; also after a failure of the device, and once the cache is closed. Allocates
+    /// nothing.
     pub fn find(&self, loader: &[u8], class: &[u8]) -> Option<&Arc<Record, Global>>
         ensures found { option_map (λ r. arc_value r.now) result
             ≡ class_in (state_of words_show self.now.rows) loader.now class.now }
@@ -98,7 +99,7 @@ impl Front {
     }
 
     /// The accepted loaders and classes by their rows, each class with its record.
-    pub fn rows(&self) -> &Book<Prepared>
+    pub fn rows(&self) -> &LiveRows<Prepared>
         ensures sizes { result.now.sizes ≡ self.now.sizes }
         ensures rows { result.now.rows ≡ self.now.rows }
         ensures lawful { IsFront self.now }
@@ -106,8 +107,8 @@ impl Front {
         &self.book
     }
 
-    /// Hands out the oldest group of accepted commands, with the number that is known to be stored
-    /// by now. `None` where all commands are handed out. Takes no memory.
+    /// Hands out the oldest group of accepted commands, with the number that is known to be durable
+    /// by now. `None` if all commands are handed out. Allocates nothing.
     pub fn seal(&mut self) -> Option<Group>
         ensures { Seals self.old result self.new }
     {
@@ -117,9 +118,9 @@ impl Front {
         Some(group)
     }
 
-    /// Learns that all commands up to a number are stored: the chunks that waited for one of these
-    /// are free from then on. What is learnt never falls. Refused, with nothing changed, where
-    /// the number wasn't handed out yet. Takes no memory.
+    /// Learns that all commands up to a number are durable: the chunks that waited for one of these
+    /// are free from then on. What is learnt never falls. Refused, with nothing changed, if the
+    /// number wasn't handed out yet. Allocates nothing.
     pub fn learn(&mut self, receipt: Receipt) -> Result<(), Stranger>
         ensures known { IsOk result ↔ (receipt.number ≤ self.old.sealed) }
         ensures ok { OnOk result (self.new ≡ with_learnt self.old receipt.number) }
@@ -134,14 +135,14 @@ impl Front {
         Ok(())
     }
 
-    /// The device failed: from now on no command is accepted. Takes no memory.
+    /// The device failed: from now on no command is accepted. Allocates nothing.
     pub fn fail(&mut self)
         ensures { self.new ≡ record self.old { broken = true } }
     {
         self.is_broken = true;
     }
 
-    /// Closes the cache: from now on no command is accepted. Takes no memory.
+    /// Closes the cache: from now on no command is accepted. Allocates nothing.
     pub fn close(&mut self)
         ensures { self.new ≡ record self.old { closed = true } }
     {

@@ -1,4 +1,4 @@
-//! How arenas go with rows. Each law is the contract of a function.
+//! How arenas match rows. Each law is the contract of a function.
 
 ghost use Rattle.cm_front.specs.Arenas.{ArenasAreOfRows};
 ghost use Rattle.cm_front.specs.Laws.{ChainsEndAtTop, ChainsHaveChunks, PlacesKeepRules};
@@ -6,15 +6,14 @@ ghost use Rattle.cm_front.specs.Laws.{ChainsEndAtTop, ChainsHaveChunks, PlacesKe
 use cm_pool::roots_are_free;
 use cm_space::held_chunks_are_used;
 
-/// The chain that rows make of a loader ends at the chunk of its last class, with the used words;
-/// and it has the chunk of each of its classes.
+/// The chain that rows give a loader ends at the chunk of its last class, with the used words; and
+/// it has the chunk of each of its classes.
 pub fn chains_go_with_rows()
     ensures tops { ChainsEndAtTop }
     ensures chunks { ChainsHaveChunks }
 {}
 
-/// A loader's arena in a cache has the chunks that the loader's classes begin, in order, and no
-/// others.
+/// A loader's arena in a cache has exactly the chunks that the loader's classes begin, in order.
 pub fn arenas_are_of_rows()
     ensures { ArenasAreOfRows }
 {}

@@ -1,4 +1,4 @@
-//! Lists of names of loaders that are to go at once. They are few.
+//! Lists of names of loaders that are to be unloaded at once. They are short.
 
 ghost use Rattle.std.specs.Prelude.{◌≡◌, not, map};
 ghost use Rattle.std.specs.List.{list_all};
@@ -8,7 +8,8 @@ ghost use Rattle.cm_state.specs.Step.{is_list, names_differ};
 
 use cm_layout::UNLOAD_LIMIT;
 
-/// Whether loaders of these names may go at once: there are one to seven, and none of them twice.
+/// Whether loaders of these names may be unloaded at once: there are one to seven, and none of them
+/// appears twice.
 pub(crate) fn is_list(names: &[&[u8]]) -> bool
     ensures { result ≡ is_list (map (λ name. name.now) names.now) }
 {

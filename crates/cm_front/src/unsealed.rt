@@ -3,7 +3,7 @@
 ghost use Rattle.std.specs.Prelude.{◌≡◌, ◌^◌, ◌<◌, ◌≤◌, [], ◌∷◌, ◌++◌, true, option_to_list};
 ghost use Rattle.std.specs.Prelude.{IsSome, IfSome, IfNone, OnOk};
 ghost use Rattle.std.specs.VecDeque.{deque_capacity, deque_len};
-ghost use Rattle.cm_front.specs.Unsealed.{GoUpTo, TakesOldest, NewestIsLast};
+ghost use Rattle.cm_front.specs.Unsealed.{EndBefore, TakesOldest, NewestIsLast};
 ghost use Rattle.cm_front.specs.Accepting.{joined_by};
 
 use cm_group::{CarriedEntry, Group, GroupRoom};
@@ -13,7 +13,8 @@ use std::marker::Model;
 
 /// The groups that aren't handed out yet, oldest first. All but the newest are full.
 ///
-/// Room for one entry more is taken before a command is accepted, so that nothing fails once it is.
+/// Room for one more entry is reserved before a command is accepted, so that nothing fails
+/// afterwards.
 #[derive(Drop)]
 pub(crate) struct Unsealed {
     alloc: Global,
@@ -50,7 +51,7 @@ impl Unsealed {
         }
     }
 
-    /// Takes the room that one entry more may need. The groups stay as they are.
+    /// Reserves the room that one more entry may need. The groups stay as they are.
     pub(crate) fn make_ready(&mut self) -> Result<(), AllocError>
         ensures groups { self.new.groups ≡ self.old.groups }
         ensures ready { OnOk result (self.new.is_ready ≡ true) }
@@ -62,13 +63,13 @@ impl Unsealed {
         Ok(())
     }
 
-    /// The entry of the next number joins the newest group, while that has slots for it, or begins
-    /// one. Takes no memory.
+    /// The entry of the next number joins the newest group, as long as that has slots for it, or
+    /// begins a new one. Allocates nothing.
     pub(crate) fn join(&mut self, number: u64, entry: CarriedEntry)
         requires ready { self.old.is_ready ≡ true }
         requires from { 1 ≤ number }
         requires to { number ≤ 2 ^ 63 }
-        requires next { GoUpTo self.old.groups number }
+        requires next { EndBefore self.old.groups number }
         ensures { self.new.groups ≡ joined_by number self.old.groups entry }
     {
         let newest = self.newest.take();
@@ -76,7 +77,7 @@ impl Unsealed {
         let _none = self.newest.replace(joined); // it was taken out above
     }
 
-    /// Takes the oldest group out, if there is one. Takes no memory.
+    /// Takes the oldest group out, if there is one. Allocates nothing.
     pub(crate) fn take_oldest(&mut self) -> Option<Group>
         ensures some { IfSome result
             (λ group. TakesOldest self.old.groups group self.new.groups) }
@@ -90,8 +91,8 @@ impl Unsealed {
     }
 }
 
-// The group that the entry is in: the newest, while that has slots for it, or a new one in the room
-// that is there for it. A newest group without slots joins the full ones.
+// Returns the group that the entry is in: the newest, as long as that has slots for it, or a new
+// one in the room reserved for it. A newest group without slots joins the full ones.
 fn join(
     full: &mut VecDeque<Group>,
     newest: Option<Group>,
@@ -104,7 +105,7 @@ fn join(
     requires last { NewestIsLast full.old.items newest }
     requires from { 1 ≤ number }
     requires to { number ≤ 2 ^ 63 }
-    requires next { GoUpTo (full.old.items ++ option_to_list newest) number }
+    requires next { EndBefore (full.old.items ++ option_to_list newest) number }
     ensures { full.new.items ++ result ∷ []
         ≡ joined_by number (full.old.items ++ option_to_list newest) entry }
 {

@@ -6,7 +6,7 @@ use Rattle.std.proofs.lemmas.List.{length-append}
 use Rattle.cm_layout.specs.Rows.{slots_of}
 use Rattle.cm_layout.specs.Frames.{bare_entry}
 use Rattle.cm_layout.proofs.{some_slots}
-use Rattle.cm_group.specs.Groups.{Carried, CarriesRight, Handed, KeepsGroup, GoesOn}
+use Rattle.cm_group.specs.Groups.{Carried, CarriesRight, Handed, KeepsGroup, IsContinuedBy}
 use Rattle.cm_group.specs.Groups.{slots_taken}
 
 pub taken-append : (xs ys : List Carried)
@@ -14,7 +14,7 @@ pub taken-append : (xs ys : List Carried)
 taken-append [] ys = omega arith
 taken-append (x ∷ xs) ys = omega (arith, taken-append xs ys)
 
--- no more entries than slots
+-- a group has no more entries than slots
 pub enough : (xs : List Carried) → length xs ≤ slots_taken xs
 enough [] = omega arith
 enough (x ∷ xs) = omega (arith, enough xs, some_slots (bare_entry x.entry))
@@ -48,13 +48,14 @@ with_entry capacity slots more room group c grown k m right fits numbers wide e 
     })
 
 pub room_for : (capacity more slots others : ℕ) (one two : Handed) → KeepsGroup capacity slots one
-    → KeepsGroup more others two → GoesOn one two
+    → KeepsGroup more others two → IsContinuedBy one two
     → length one.entries + length two.entries ≤ capacity
 room_for capacity more slots others one two k j goes =
     omega (arith, k.room, k.slots_are, goes.few, enough two.entries)
 
 pub with_group : (capacity more slots others room : ℕ) (one two : Handed) (grown : List Carried)
-    (learnt : ℕ) → KeepsGroup capacity slots one → KeepsGroup more others two → GoesOn one two
+    (learnt : ℕ) → KeepsGroup capacity slots one → KeepsGroup more others two
+    → IsContinuedBy one two
     → capacity ≤ room → learnt ≡ max one.learnt two.learnt → grown ≡ one.entries ++ two.entries
     → KeepsGroup room (slots + others)
     (record { first = one.first; learnt = learnt; entries = grown })

@@ -1,5 +1,5 @@
--- Groups: what is handed from the accepted cache to its disk at once. The entries have numbers one
--- behind another; each goes with the records that it writes.
+-- Groups: what the accepted cache hands to its disk at once. The entries have consecutive numbers;
+-- each comes with the records that it writes.
 use Rattle.std.specs.Prelude.{◌≡◌, ℕ, ◌+◌, ◌^◌, ◌<◌, ◌≤◌, ◌-◌, min, max, List, [], ◌∷◌, ◌++◌}
 use Rattle.std.specs.Prelude.{length}
 use Rattle.std.specs.Prelude.{map, Option, Some, None}
@@ -16,7 +16,7 @@ use Rattle.cm_layout.specs.declared.entry.Entry.{Entry}
 use Rattle.cm_layout.specs.declared.entry.Entry.TheVariants as entry
 use Rattle.cm_layout.specs.Frames.{BareEntry, bare_entry}
 
--- an entry, a class with the words of its record; and beside a move those of the records on its old
+-- an entry; a class with the words of its record, and a move with those of the records on its old
 -- chunk, in order
 pub record Carried : Type 0 where
   pub entry : Entry (List ℕ)
@@ -40,7 +40,8 @@ class_made (entry.Unload e) = None
 class_made (entry.Move e) = None
 class_made (entry.UnloadAll e) = None
 
--- the records that an entry writes: a class's own, those that move, none for any other
+-- the records that an entry writes: for a class its own, for a move those that move, for any other
+-- entry none
 abbrev pub records_of : Entry (List ℕ) → List (List ℕ) → List (List ℕ)
 records_of (entry.Live (Loader r)) moved = []
 records_of (entry.Live (Class r words)) moved = words ∷ []
@@ -48,14 +49,14 @@ records_of (entry.Unload e) moved = []
 records_of (entry.Move e) moved = moved
 records_of (entry.UnloadAll e) moved = []
 
--- the records that move with an entry, where these rows live before it: those on the old chunk
+-- the records that move with an entry, given the rows before it: those on the old chunk
 abbrev pub moved_with : List (Row (List ℕ)) → Entry (List ℕ) → List (List ℕ)
 moved_with rows (entry.Live row) = []
 moved_with rows (entry.Unload e) = []
 moved_with rows (entry.Move e) = kept_on e.from rows
 moved_with rows (entry.UnloadAll e) = []
 
--- where records lie that lie one behind another, each at an offset of 32 bits
+-- the offsets, of 32 bits each, of records that follow one another
 abbrev pub offsets_from : ℕ → List (List ℕ) → List ℕ
 offsets_from at [] = []
 offsets_from at (words ∷ records) =
@@ -65,7 +66,7 @@ offsets_from at (words ∷ records) =
 abbrev pub slots_taken : List Carried → ℕ
 slots_taken carried = slots_of_entries (entries_in carried)
 
--- the number behind the last one
+-- the number after the last one
 abbrev pub next_number : Handed → ℕ
 next_number group = group.first + length group.entries
 
@@ -80,7 +81,7 @@ AreRight rows = EachClass IsRightRecord rows
 abbrev pub CarriesRight : Carried → Type 0
 CarriesRight c = AllByRecursion IsRightRecord (records_of c.entry c.moved)
 
--- what is true of each group
+-- the invariant of groups
 pub record IsGroup (group : Handed) : Type 0 where
   pub some : 1 ≤ length group.entries
   pub few : slots_taken group.entries ≤ group_limit
@@ -88,20 +89,22 @@ pub record IsGroup (group : Handed) : Type 0 where
   pub numbers : next_number group ≤ 2 ^ 63 + 1
   pub right : AllByRecursion CarriesRight group.entries
 
--- the second goes on where the first ends, nothing is learnt between them, and one group holds both
-pub record GoesOn (one two : Handed) : Type 0 where
+-- the second group continues where the first ends, nothing is learnt between them, and one group
+-- can hold both
+pub record IsContinuedBy (one two : Handed) : Type 0 where
   pub numbers : next_number one ≡ two.first
   pub learnt : two.learnt < one.first
   pub few : slots_taken one.entries + slots_taken two.entries ≤ group_limit
 
-abbrev pub joined : Handed → Handed → Handed
-joined one two = record {
+abbrev pub joined_group : Handed → Handed → Handed
+joined_group one two = record {
   first = one.first;
   learnt = max one.learnt two.learnt;
   entries = one.entries ++ two.entries;
 }
 
--- what a group keeps: how many slots it has taken, and room for as many entries as the others allow
+-- the invariant of a group's fields: how many slots it has taken, and room for as many entries as
+-- the other slots allow
 pub record KeepsGroup (capacity slots : ℕ) (group : Handed) : Type 0 where
   pub is : IsGroup group
   pub slots_are : slots ≡ slots_taken group.entries

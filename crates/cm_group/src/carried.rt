@@ -17,12 +17,13 @@ use std::alloc::Global;
 use std::marker::Model;
 use std::sync::Arc;
 
-/// An entry with the records that it writes, each of a class that keeps the class rules: a class's
-/// own, those on the old chunk for a move, none for any other. Records are shared, never copied.
+/// An entry with the records that it writes, each of a class that keeps the class rules: for a
+/// class its own, for a move those on the old chunk, for any other entry none. Records are shared,
+/// never copied.
 #[derive(Drop)]
 pub struct CarriedEntry {
     entry: Entry<Arc<Record, Global>>,
-    /// Beside a move the records that move; else none.
+    /// For a move the records that move; else none.
     moved: MovedRecords,
 }
 
@@ -62,7 +63,7 @@ impl CarriedEntry {
         }
     }
 
-    /// That a loader is unloaded, which writes no record.
+    /// The unloading of a loader, which writes no record.
     pub fn unload(alloc: Global, entry: Unload) -> CarriedEntry
         ensures { result ≡ record { entry = variant.Unload entry; moved = [] } }
     {
@@ -72,7 +73,7 @@ impl CarriedEntry {
         }
     }
 
-    /// That several loaders are unloaded at once, which writes no record.
+    /// The unloading of several loaders at once, which writes no record.
     pub fn unload_all(alloc: Global, entry: UnloadAll) -> CarriedEntry
         ensures { result ≡ record { entry = variant.UnloadAll entry; moved = [] } }
     {
@@ -82,9 +83,8 @@ impl CarriedEntry {
         }
     }
 
-    /// That a loader's last chunk moves, with the records that lie on it, in order. Takes no
-    /// memory.
-    pub fn relocation(entry: Move, moved: MovedRecords) -> CarriedEntry
+    /// The move of a loader's last chunk, with the records on it, in order. Doesn't allocate.
+    pub fn of_move(entry: Move, moved: MovedRecords) -> CarriedEntry
         requires right { AllByRecursion IsRightRecord moved }
         ensures { result ≡ record { entry = variant.Move entry; moved = moved } }
     {
@@ -114,14 +114,14 @@ impl CarriedEntry {
         }
     }
 
-    /// The records that move with it, in order: none but beside a move.
+    /// The records that move with it, in order: none unless it is a move.
     pub fn moved(&self) -> &[Arc<Record, Global>]
         ensures { map arc_value result.now ≡ self.now.moved }
     {
         self.moved.records()
     }
 
-    /// The record of this number among those that move with it, and where that lies on its chunk.
+    /// The record of this number among those that move with it, and its offset on the chunk.
     pub fn moved_at(&self, number: usize) -> Option<(u32, &Arc<Record, Global>)>
         ensures record { MatchOption result (slice_get self.now.moved number ≡ None)
             (λ m. slice_get self.now.moved number ≡ Some (arc_value m.1.now)) }
@@ -139,7 +139,7 @@ impl CarriedEntry {
         self.entry.bare().slots()
     }
 
-    /// The entry, a class with its record.
+    /// The entry; a class with its record.
     pub fn into_entry(self) -> Entry<Arc<Record, Global>>
         ensures { entry_with arc_value result ≡ self.entry }
     {

@@ -1,8 +1,9 @@
-//! Groups: what is handed from the accepted cache to its disk at once.
+//! Groups: what the accepted cache hands to its disk at once.
 
 ghost use Rattle.std.specs.Prelude.{◌≡◌, ◌+◌, ◌^◌, ◌<◌, ◌≤◌, ◌↔◌, ◌++◌, ◌∷◌, [], ℕ, List, length};
 ghost use Rattle.std.specs.Prelude.{IsOk, IfOk, IfErr, OnOk, OnErr, IsTrue};
-ghost use Rattle.cm_group.specs.Groups.{IsGroup, GoesOn, joined, group_limit, slots_taken};
+ghost use Rattle.cm_group.specs.Groups.{IsGroup, IsContinuedBy, joined_group, group_limit};
+ghost use Rattle.cm_group.specs.Groups.{slots_taken};
 ghost use Rattle.cm_group.specs.Groups.{next_number};
 
 use crate::carried::CarriedEntry;
@@ -11,9 +12,8 @@ use cm_layout::GROUP_SLOTS;
 use std::alloc::{AllocError, Global};
 use std::marker::Model;
 
-/// Entries of one to 64 slots with numbers one behind another, each with the records that it
-/// writes: what the accepted cache hands to its disk at once. It has room for 64 entries from the
-/// start.
+/// Entries of one to 64 slots with consecutive numbers, each with the records that it writes: what
+/// the accepted cache hands to its disk at once. It has room for 64 entries from the start.
 #[derive(Drop)]
 pub struct Group {
     first: u64,
@@ -35,8 +35,8 @@ impl Model for Group {
 }
 
 impl Group {
-    /// A group of one entry, which has this number. Nothing is learnt yet. It is put into room that
-    /// was taken before, so no memory is taken here.
+    /// A group of one entry, which has this number. Nothing is learnt yet. It uses room that was
+    /// allocated before, so nothing is allocated here.
     pub fn new_in(room: GroupRoom, number: u64, entry: CarriedEntry) -> Group
         requires from { 1 ≤ number }
         requires to { number ≤ 2 ^ 63 }
@@ -64,11 +64,11 @@ impl Group {
         Ok(Group::new_in(room, number, entry))
     }
 
-    /// Does nothing: its clause says that it is a group.
+    /// Does nothing: its clause states the invariant of groups.
     pub fn invariant_holds(&self)
         ensures { IsGroup self.now }
     {
-        let _read = self.first; // the read of a field brings the invariant
+        let _read = self.first; // reading a field provides the invariant
     }
 
     /// The number of the first entry.
@@ -86,7 +86,8 @@ impl Group {
         self.entries.len()
     }
 
-    /// What the cache had learnt to be stored when it handed the group out.
+    /// The number up to which the cache had learnt that commands are durable when it handed out the
+    /// group.
     pub fn learnt_number(&self) -> u64
         ensures value { result ≡ self.now.learnt }
         ensures below { result < self.now.first }
@@ -117,8 +118,8 @@ impl Group {
         entries
     }
 
-    /// One entry more, with the next number. It is handed back, and nothing is changed, exactly
-    /// where the group has no slots for it. Takes no memory.
+    /// Adds one more entry, with the next number. It is handed back, and nothing is changed,
+    /// exactly if the group has no slots for it. Doesn't allocate.
     pub fn push(&mut self, entry: CarriedEntry) -> Result<(), CarriedEntry>
         requires number { next_number self.old ≤ 2 ^ 63 }
         ensures room { IsOk result ↔ (slots_taken (self.old.entries ++ entry ∷ []) ≤ group_limit) }
@@ -138,7 +139,7 @@ impl Group {
         Ok(())
     }
 
-    /// The group as it is handed out, with what the cache has learnt by then.
+    /// Sets what the cache has learnt by the time that it hands out the group.
     pub fn set_learnt(&mut self, learnt: u64)
         requires { learnt < self.old.first }
         ensures { self.new ≡ record {
@@ -150,12 +151,12 @@ impl Group {
         self.learnt = learnt;
     }
 
-    /// Joins another group to this one. It is handed back, and nothing is changed, where it doesn't
-    /// begin one past this group's last number, where what it knows to be stored isn't below this
-    /// group's first number, and where both have more than 64 slots. Takes no memory.
+    /// Joins another group to this one. It is handed back, and nothing is changed, if it doesn't
+    /// begin one past this group's last number, if what it knows to be durable isn't below this
+    /// group's first number, or if both have more than 64 slots. Doesn't allocate.
     pub fn add(&mut self, mut other: Group) -> Result<(), Group>
-        ensures goes_on { IsOk result ↔ GoesOn self.old other }
-        ensures ok { OnOk result (self.new ≡ joined self.old other) }
+        ensures goes_on { IsOk result ↔ IsContinuedBy self.old other }
+        ensures ok { OnOk result (self.new ≡ joined_group self.old other) }
         ensures err { IfErr result (λ back. (back ≡ other) × (self.new ≡ self.old)) }
     {
         if !self.goes_on(&other) {
@@ -167,9 +168,9 @@ impl Group {
         Ok(())
     }
 
-    /// Whether another group goes on where this one ends, and one group holds both.
+    /// Whether another group continues where this one ends, and one group can hold both.
     fn goes_on(&self, other: &Group) -> bool
-        ensures { IsTrue result ↔ GoesOn self.now other.now }
+        ensures { IsTrue result ↔ IsContinuedBy self.now other.now }
     {
         self.first + self.entries.len() as u64 == other.first
             && other.learnt < self.first

@@ -10,11 +10,11 @@ use std::alloc::{AllocError, Global};
 use std::marker::Model;
 use std::sync::Arc;
 
-/// Records that lie one behind another on a chunk and move together. Contracts see their words.
+/// Records that are one after another on a chunk and move together. Contracts see their words.
 #[derive(Drop)]
 pub struct MovedRecords {
     records: Vec<Arc<Record, Global>>,
-    /// Where each of them lies on its chunk.
+    /// The offset of each of them on its chunk.
     offsets: Vec<u32>,
 }
 
@@ -30,7 +30,7 @@ impl Model for MovedRecords {
     ghost invariant = { λ m. m.offsets.items ≡ offsets_from 0 (map arc_value m.records.items) };
 }
 
-// Where each of some records lies that lie one behind another.
+// The offset of each of some records that follow one another.
 fn offsets_of(alloc: Global, records: &[Arc<Record, Global>]) -> Result<Vec<u32>, AllocError>
     ensures { IfOk result (λ offsets. offsets.items
         ≡ offsets_from 0 (map arc_value records.now)) }
@@ -45,7 +45,7 @@ fn offsets_of(alloc: Global, records: &[Arc<Record, Global>]) -> Result<Vec<u32>
 }
 
 impl MovedRecords {
-    /// No records. Takes no memory.
+    /// No records. Doesn't allocate.
     pub fn none(alloc: Global) -> MovedRecords
         ensures { result ≡ [] }
     {
@@ -55,7 +55,7 @@ impl MovedRecords {
         }
     }
 
-    /// These records, in the order in which they lie on their chunk.
+    /// These records, in their order on the chunk.
     pub fn new(alloc: Global, records: Vec<Arc<Record, Global>>) -> Result<MovedRecords, AllocError>
         ensures { IfOk result (λ moved. moved ≡ map arc_value records.items) }
     {
@@ -70,7 +70,7 @@ impl MovedRecords {
         &self.records
     }
 
-    /// The record of this number, and where it lies on its chunk.
+    /// The record of this number, and its offset on the chunk.
     pub fn at(&self, number: usize) -> Option<(u32, &Arc<Record, Global>)>
         ensures record { MatchOption result (slice_get self.now number ≡ None)
             (λ m. slice_get self.now number ≡ Some (arc_value m.1.now)) }

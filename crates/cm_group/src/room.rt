@@ -1,5 +1,5 @@
-//! Room that is taken before it is known what goes into it, so that a command can get all its
-//! memory first and fail at nothing later.
+//! Room that is allocated before it is known what it will hold, so that a command can get all its
+//! memory first and can't fail later.
 
 ghost use Rattle.std.specs.Prelude.{◌≡◌, ◌≤◌, [], vec_capacity};
 
@@ -28,7 +28,7 @@ impl Model for GroupRoom {
 impl GroupRoom {
     ghost use Rattle.cm_group.specs.Groups.{group_limit};
 
-    /// The room, taken now.
+    /// Allocates the room.
     pub fn new(alloc: Global) -> Result<GroupRoom, AllocError> {
         let entries = Vec::with_capacity(alloc, GROUP_SLOTS)?;
         Ok(GroupRoom { entries })

@@ -1,4 +1,5 @@
--- One byte is written where all is stored: each image has some byte there, and nothing else new.
+-- One byte is written when everything is durable: each image has some byte there, and nothing else
+-- new.
 -- For `cuts_behind_keep_a_claim`, `gates_turn_claims`, `guarded_claim_holds_of_each_image` and
 -- others.
 use Rattle.std.proofs.Common.{◌≡◌, ◌<◌, ◌+◌, ◌⊎◌, ℕ, Bool, true, false, List, [], ◌∷◌}
@@ -10,25 +11,25 @@ use Rattle.std.proofs.Math.ListN.{set}
 use Rattle.std.proofs.lemmas.Bool.{false≢true, lt-leb, le-ltb, cases_lt}
 use Rattle.std.proofs.lemmas.List.{ext_get_or, length-set, get_or-set_same, get_or-set_other}
 use Rattle.std.proofs.lemmas.List.{set_split}
-use Rattle.cm_disk.specs.Disk.{Unsynced, IsImage, IsWithin, IsSettled, IsSound, widened, is_among}
+use Rattle.cm_disk.specs.Disk.{Unsynced, IsImage, IsWithin, IsDurable, IsSound, widened, is_among}
 use Rattle.cm_disk.specs.Calls.{IsTorn, overwritten}
 use Rattle.cm_disk.proofs.{after_write}
 use Rattle.cm_guards.specs.Guards.{EachImage}
 use Rattle.cm_guards.specs.Gates.{OneOf, Turns}
 
--- where all is stored, an image is the contents
-pub settled_image : (contents : List ℕ) (unsynced : Unsynced) (image : List ℕ)
-    → IsSettled contents unsynced → IsImage contents unsynced image → image ≡ contents
-settled_image contents unsynced image settled is =
+-- if everything is durable, an image is the contents
+pub durable_image : (contents : List ℕ) (unsynced : Unsynced) (image : List ℕ)
+    → IsDurable contents unsynced → IsImage contents unsynced image → image ≡ contents
+durable_image contents unsynced image durable is =
     ext_get_or 0 image contents
-    (omega (arith, settled.least, settled.greatest, is.no_shorter, is.no_longer))
+    (omega (arith, durable.least, durable.greatest, is.no_shorter, is.no_longer))
     (λ i lt. is.same i
-    (omega (arith, settled.least, settled.greatest, is.no_longer, lt)) (settled.none_open i))
+    (omega (arith, durable.least, durable.greatest, is.no_longer, lt)) (durable.none_open i))
 
-pub settled_images : (P : List ℕ → Type 0) (contents : List ℕ) (unsynced : Unsynced)
-    → IsSettled contents unsynced → P contents → EachImage contents unsynced P
-settled_images P contents unsynced settled holds = record {
-  each = λ image is. subst P (sym (settled_image contents unsynced image settled is)) holds;
+pub durable_images : (P : List ℕ → Type 0) (contents : List ℕ) (unsynced : Unsynced)
+    → IsDurable contents unsynced → P contents → EachImage contents unsynced P
+durable_images P contents unsynced durable holds = record {
+  each = λ image is. subst P (sym (durable_image contents unsynced image durable is)) holds;
 }
 
 -- the contents are an image
@@ -54,18 +55,18 @@ other_closed gate i other =
 
 -- an image while one byte is written is the contents with some byte there
 pub gate_image : (gate : ℕ) (base : List ℕ) (unsynced : Unsynced) (image : List ℕ)
-    → gate < length base → IsSettled base unsynced → IsImage base (widened gate 1 unsynced) image
+    → gate < length base → IsDurable base unsynced → IsImage base (widened gate 1 unsynced) image
     → image ≡ set base gate (get_or image gate 0)
-gate_image gate base unsynced image inside settled is =
+gate_image gate base unsynced image inside durable is =
     let b = get_or image gate 0 in
     let long : length image ≡ length base =
-    omega (arith, settled.least, settled.greatest, is.no_shorter, is.no_longer, inside) in
+    omega (arith, durable.least, durable.greatest, is.no_shorter, is.no_longer, inside) in
     ext_get_or 0 image (set base gate b) (long ∙ sym (length-set base gate b))
     (λ i lt. ⊎_elim
     (λ here. subst (λ (k : ℕ). get_or image k 0 ≡ get_or (set base gate b) k 0) (sym here)
     (sym (get_or-set_same base gate b 0 inside)))
-    (λ other. is.same i (omega (arith, settled.least, long, lt))
-    (ap (λ (o : Bool). o || is_among gate 1 i) (settled.none_open i) ∙ other_closed gate i other)
+    (λ other. is.same i (omega (arith, durable.least, long, lt))
+    (ap (λ (o : Bool). o || is_among gate 1 i) (durable.none_open i) ∙ other_closed gate i other)
     ∙ sym (get_or-set_other base gate i b 0 other))
     (same_or_other i gate))
   where
@@ -78,28 +79,28 @@ gate_image gate base unsynced image inside settled is =
 
 -- while the gate's byte is written, one fact or the other holds of each image
 pub turned_during : (P Q : List ℕ → Type 0) (gate byte : ℕ) (base : List ℕ) (unsynced : Unsynced)
-    → Turns P Q gate byte base → IsSettled base unsynced
+    → Turns P Q gate byte base → IsDurable base unsynced
     → EachImage base (widened gate 1 unsynced) (OneOf P Q)
-turned_during P Q gate byte base unsynced turns settled = record {
+turned_during P Q gate byte base unsynced turns durable = record {
   each = λ image is.
       subst (OneOf P Q)
-      (sym (gate_image gate base unsynced image turns.inside settled is))
+      (sym (gate_image gate base unsynced image turns.inside durable is))
       (turns.either (get_or image gate 0) (is.bytes gate
-      (omega (arith, settled.least, is.no_shorter, turns.inside))));
+      (omega (arith, durable.least, is.no_shorter, turns.inside))));
 }
 
--- so it is afterwards, until a sync: whether the write is done or failed
+-- the same holds afterwards, until a sync, whether the write succeeded or failed
 pub turned_after : (P Q : List ℕ → Type 0) (gate byte : ℕ) (base now : List ℕ)
-    (before after : Unsynced) → Turns P Q gate byte base → IsSettled base before
+    (before after : Unsynced) → Turns P Q gate byte base → IsDurable base before
     → IsTorn gate 1 base now → IsWithin (widened gate 1 before) after
     → EachImage now after (OneOf P Q)
-turned_after P Q gate byte base now before after turns settled torn within = record {
+turned_after P Q gate byte base now before after turns durable torn within = record {
   each = λ image is.
-      (turned_during P Q gate byte base before turns settled).each image
+      (turned_during P Q gate byte base before turns durable).each image
       (after_write gate 1 base now before after image torn within is);
 }
 
--- the contents once the byte is written have the second fact
+-- after the byte is written, the second fact holds of the contents
 pub gate_written : (gate byte : ℕ) (base : List ℕ) → gate < length base
     → overwritten gate (byte ∷ []) base ≡ set base gate byte
 gate_written gate byte base inside =

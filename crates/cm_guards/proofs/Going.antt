@@ -1,28 +1,28 @@
--- Stages: what stands between two calls, what one call makes of it, and what a crash leaves.
+-- Stages: what holds between two calls, what one call does, and what a crash leaves.
 -- For `stages_are_gone_through`.
 use Rattle.std.proofs.Common.{◌≡◌, ◌≤◌, ◌+◌, ℕ, List, [], ◌∷◌, ◌++◌, length, take, inl, inr, refl}
 use Rattle.std.proofs.Common.{sym, subst, ◌∙◌, arith, ⊎_elim}
 use Rattle.std.specs.Prelude.{Result, Ok, Err, OnOk, OnErr}
-use Rattle.cm_disk.specs.Disk.{View, OnlyNow, Unsynced, IsSettled, IsSound}
+use Rattle.cm_disk.specs.Disk.{View, OnlyNow, Unsynced, IsDurable, IsSound}
 use Rattle.cm_disk.specs.Calls.{overwritten, HasCause}
 use Rattle.cm_guards.specs.Guards.{Guard, Agrees, Guards, Keeps, EachImage}
 use Rattle.cm_guards.specs.Gates.{OneOf}
 use Rattle.cm_guards.specs.Plans.{Write, written}
 use Rattle.cm_guards.specs.Calls.{LeavesOnly}
 use Rattle.cm_guards.specs.Laws.{Stays}
-use Rattle.cm_guards.specs.Stages.{Stage, Store, Turn, Settle, Cut, after_call, CallsOnce}
+use Rattle.cm_guards.specs.Stages.{Stage, Store, Turn, MakeDurable, Cut, after_call, CallsOnce}
 use Rattle.cm_guards.specs.Stages.{TakesCall}
 use Rattle.cm_guards.specs.Stages.{turned, leaves, claim_behind, Rests, IsReady, StagesStand}
 use Rattle.cm_guards.specs.Stages.{calls_left, gone_through}
-use Rattle.cm_guards.proofs.Kept.{guarded_images, keeps_settled}
-use Rattle.cm_guards.proofs.Gated.{settled_images}
+use Rattle.cm_guards.proofs.Kept.{guarded_images, keeps_durable}
+use Rattle.cm_guards.proofs.Gated.{durable_images}
 use Rattle.cm_guards.proofs.Planned.{plan_goes_on, written_goes_on}
 use Rattle.cm_guards.proofs.Left.{leaves_more}
 use Rattle.cm_guards.proofs.Steps.{write_leaves, cut_leaves, gate_leaves, sync_leaves}
 use Rattle.cm_guards.proofs.Steps.{stays_written, stays_cut, gate_images}
 use Rattle.cm_guards.proofs.Steps.{images_synced, stays_images}
 
--- ---- what agrees with contents is guarded
+-- ---- what agrees with guarded contents
 
 agrees_on : (g : Guard) (a b c : List ℕ) → Agrees g a b → Agrees g b c → Agrees g a c
 agrees_on g a b c first second = record {
@@ -46,13 +46,13 @@ module _ (P Q : List ℕ → Type 0) (long : ℕ) where
   rests_hold g contents rests =
       rests.each contents (agrees_itself g contents rests.long)
 
-  -- where stages are left, the first fact holds
+  -- if stages are left, the first fact holds
   ready_holds : (stage : Stage) (stages : List Stage) (contents : List ℕ)
       → IsReady P Q long (stage ∷ stages) contents → P contents
   ready_holds (Store writes) stages contents ready =
       rests_hold ready.guard contents ready.rests
   ready_holds (Turn gate byte) stages contents ready = ready.holds
-  ready_holds Settle stages contents ready = absurd ready
+  ready_holds MakeDurable stages contents ready = absurd ready
   ready_holds (Cut len) stages contents ready = rests_hold ready.guard contents ready.rests
 
   ready_turned : (stages : List Stage) (contents : List ℕ) → IsReady P Q long stages contents
@@ -60,24 +60,24 @@ module _ (P Q : List ℕ → Type 0) (long : ℕ) where
   ready_turned [] contents ready = record { which = inr ready.holds }
   ready_turned (stage ∷ stages) contents ready = ready_holds stage stages contents ready
 
-  -- where all is stored, stages that are ready stand
+  -- if everything is durable, ready stages stand
   pub ready_stands : (left : List Stage) (contents : List ℕ) (unsynced : Unsynced)
-      → IsSettled contents unsynced → IsReady P Q long left contents
+      → IsDurable contents unsynced → IsReady P Q long left contents
       → StagesStand P Q long left contents unsynced
-  ready_stands [] contents unsynced settled ready =
-      record { settled = settled; ready = ready }
-  ready_stands (Store writes ∷ stages) contents unsynced settled ready = record {
+  ready_stands [] contents unsynced durable ready =
+      record { durable = durable; ready = ready }
+  ready_stands (Store writes ∷ stages) contents unsynced durable ready = record {
     guard = ready.guard;
-    keeps = keeps_settled ready.guard contents unsynced ready.rests.ends ready.rests.long settled;
+    keeps = keeps_durable ready.guard contents unsynced ready.rests.ends ready.rests.long durable;
     each = ready.rests.each;
     can = ready.can;
     behind = ready.behind;
   }
-  ready_stands (Turn gate byte ∷ stages) contents unsynced settled ready =
-      record { settled = settled; ready = ready }
-  ready_stands (Settle ∷ stages) contents unsynced settled ready = absurd ready
-  ready_stands (Cut len ∷ stages) contents unsynced settled ready =
-      record { settled = settled; ready = ready }
+  ready_stands (Turn gate byte ∷ stages) contents unsynced durable ready =
+      record { durable = durable; ready = ready }
+  ready_stands (MakeDurable ∷ stages) contents unsynced durable ready = absurd ready
+  ready_stands (Cut len ∷ stages) contents unsynced durable ready =
+      record { durable = durable; ready = ready }
 
   -- the next call can be made
   pub takes_call : (left : List Stage) (contents : List ℕ) (unsynced : Unsynced)
@@ -95,10 +95,10 @@ module _ (P Q : List ℕ → Type 0) (long : ℕ) where
         starts_within = omega (arith, inside);
         within_limit = omega (arith, inside, sound.greatest, sound.limit);
       }
-  takes_call (Settle ∷ stages) contents unsynced sound some stands = tt
+  takes_call (MakeDurable ∷ stages) contents unsynced sound some stands = tt
   takes_call (Cut len ∷ stages) contents unsynced sound some stands = stands.ready.within
 
-  -- what is left to a crash between two calls
+  -- what a crash may leave between two calls
   pub stages_leave : (left : List Stage) (contents : List ℕ) (unsynced : Unsynced)
       → (left ≡ [] → ⊥) → StagesStand P Q long left contents unsynced
       → EachImage contents unsynced (leaves left P Q)
@@ -113,16 +113,16 @@ module _ (P Q : List ℕ → Type 0) (long : ℕ) where
   stages_leave (Turn gate byte ∷ []) contents unsynced some stands = record {
     each = λ image is. record {
       which = inl
-          ((settled_images P contents unsynced stands.settled stands.ready.holds).each image is);
+          ((durable_images P contents unsynced stands.durable stands.ready.holds).each image is);
     };
   }
   stages_leave (Turn gate byte ∷ stage ∷ stages) contents unsynced some stands = record {
-    each = (settled_images P contents unsynced stands.settled stands.ready.holds).each;
+    each = (durable_images P contents unsynced stands.durable stands.ready.holds).each;
   }
-  stages_leave (Settle ∷ stages) contents unsynced some stands =
+  stages_leave (MakeDurable ∷ stages) contents unsynced some stands =
       record { each = stands.images.each }
   stages_leave (Cut len ∷ stages) contents unsynced some stands = record {
-    each = (settled_images P contents unsynced stands.settled
+    each = (durable_images P contents unsynced stands.durable
         (rests_hold stands.ready.guard contents stands.ready.rests)).each;
   }
 
@@ -136,7 +136,7 @@ on_err : {T E : Type 0} (r : Result T E) (B : Type 0) → B → OnErr r B
 on_err (Ok x) B b = tt
 on_err (Err e) B b = b
 
--- a gate's byte leaves the one fact or the other; the other is the last one only at the last gate
+-- a gate's byte leaves one fact or the other; it leaves the last one only at the last gate
 either_turned : (P Q : List ℕ → Type 0) (stages : List Stage) (contents : List ℕ)
     → OneOf P (claim_behind stages P Q) contents → turned stages P Q contents
 either_turned P Q [] contents one = one
@@ -196,15 +196,15 @@ module _ {D T E : Type 0} (view : View D)
         (length w.bytes) (agreement_guards g (view.contents old)) at.keeps at.can.0.apart
         (agrees_itself g (view.contents old) at.keeps.long) call.time)
 
-  -- ---- the sync behind the writes
+  -- ---- the sync after the writes
 
   module _ (stages : List Stage) (at : Stand (Store [] ∷ stages) old)
       (call : Calls (Store [] ∷ stages)) where
     stored : OnOk r (Stand stages new)
     stored =
-        on_ok r (IsSettled (view.contents new) (view.unsynced new)) (Stand stages new) (λ settled.
-        ready_stands P Q long stages (view.contents new) (view.unsynced new) settled
-        (subst (IsReady P Q long stages) (sym call.same) at.behind)) call.settled
+        on_ok r (IsDurable (view.contents new) (view.unsynced new)) (Stand stages new) (λ durable.
+        ready_stands P Q long stages (view.contents new) (view.unsynced new) durable
+        (subst (IsReady P Q long stages) (sym call.same) at.behind)) call.durable
 
     images_before : EachImage (view.contents old) (view.unsynced old) P
     images_before = record {
@@ -233,14 +233,14 @@ module _ {D T E : Type 0} (view : View D)
 
     gate_stays : EachImage (view.contents new) (view.unsynced new) (turned stages P Q)
     gate_stays =
-        let images = gate_images view r P Next gate byte old new call at.ready.turns at.settled in
+        let images = gate_images view r P Next gate byte old new call at.ready.turns at.durable in
         record { each = λ image is. either_turned P Q stages image (images.each image is) }
 
-    opened : OnOk r (Stand (Settle ∷ stages) new)
+    opened : OnOk r (Stand (MakeDurable ∷ stages) new)
     opened =
         let images = gate_stays in
         on_ok r (view.contents new ≡ overwritten gate (byte ∷ []) (view.contents old))
-        (Stand (Settle ∷ stages) new) (λ done. record {
+        (Stand (MakeDurable ∷ stages) new) (λ done. record {
           images = images;
           behind = subst (IsReady P Q long stages) (sym done) at.ready.behind;
         }) call.written
@@ -250,17 +250,17 @@ module _ {D T E : Type 0} (view : View D)
         leaves_more view old new (OneOf P Next) (turned stages P Q)
         (λ image one. either_turned P Q stages image one)
         (gate_leaves view only_now old new P Next gate byte
-        at.ready.turns at.settled at.ready.holds call.time)
+        at.ready.turns at.durable at.ready.holds call.time)
 
-  -- ---- the sync behind it
+  -- ---- the sync after it
 
-  module _ (stages : List Stage) (at : Stand (Settle ∷ stages) old)
-      (call : Calls (Settle ∷ stages)) where
-    settled_behind : OnOk r (Stand stages new)
-    settled_behind =
-        on_ok r (IsSettled (view.contents new) (view.unsynced new)) (Stand stages new) (λ settled.
-        ready_stands P Q long stages (view.contents new) (view.unsynced new) settled
-        (subst (IsReady P Q long stages) (sym call.same) at.behind)) call.settled
+  module _ (stages : List Stage) (at : Stand (MakeDurable ∷ stages) old)
+      (call : Calls (MakeDurable ∷ stages)) where
+    durable_behind : OnOk r (Stand stages new)
+    durable_behind =
+        on_ok r (IsDurable (view.contents new) (view.unsynced new)) (Stand stages new) (λ durable.
+        ready_stands P Q long stages (view.contents new) (view.unsynced new) durable
+        (subst (IsReady P Q long stages) (sym call.same) at.behind)) call.durable
 
     settle_failed : EachImage (view.contents new) (view.unsynced new) (turned stages P Q)
     settle_failed =
@@ -272,7 +272,7 @@ module _ {D T E : Type 0} (view : View D)
         sync_leaves view only_now old new (turned stages P Q)
         at.images call.time
 
-  -- ---- a cut behind what is guarded
+  -- ---- a cut after what is guarded
 
   module _ (len : ℕ) (stages : List Stage) (at : Stand (Cut len ∷ stages) old)
       (call : Calls (Cut len ∷ stages)) where
@@ -287,7 +287,7 @@ module _ {D T E : Type 0} (view : View D)
 
     keeps_before : Keeps b (view.contents old) (view.unsynced old)
     keeps_before =
-        keeps_settled b (view.contents old) (view.unsynced old) rests.ends rests.long at.settled
+        keeps_durable b (view.contents old) (view.unsynced old) rests.ends rests.long at.durable
 
     cut_stays : Stays b Alike (view.contents new) (view.unsynced new)
     cut_stays =
@@ -326,7 +326,7 @@ module _ {D T E : Type 0} (view : View D)
         (agreement_guards b (view.contents old)) keeps_before at.ready.enough
         (agrees_itself b (view.contents old) rests.long) call.time)
 
-  -- ---- any of them
+  -- ---- any of these calls
 
   pub call_done : (left : List Stage) → Stand left old → Calls left
       → OnOk r (Stand (after_call left) new)
@@ -334,7 +334,7 @@ module _ {D T E : Type 0} (view : View D)
   call_done (Store [] ∷ stages) at call = stored stages at call
   call_done (Store (w ∷ ws) ∷ stages) at call = wrote w ws stages at call
   call_done (Turn gate byte ∷ stages) at call = opened gate byte stages at call
-  call_done (Settle ∷ stages) at call = settled_behind stages at call
+  call_done (MakeDurable ∷ stages) at call = durable_behind stages at call
   call_done (Cut len ∷ stages) at call = cut_done len stages at call
 
   pub call_failed : (left : List Stage) → Stand left old → Calls left
@@ -351,8 +351,9 @@ module _ {D T E : Type 0} (view : View D)
       on_err r (EachImage (view.contents new) (view.unsynced new)
       (leaves (Turn gate byte ∷ stages) P Q))
       (record { each = (gate_stays gate byte stages at call).each })
-  call_failed (Settle ∷ stages) at call =
-      on_err r (EachImage (view.contents new) (view.unsynced new) (leaves (Settle ∷ stages) P Q))
+  call_failed (MakeDurable ∷ stages) at call =
+      on_err r (EachImage (view.contents new) (view.unsynced new)
+      (leaves (MakeDurable ∷ stages) P Q))
       (record { each = (settle_failed stages at call).each })
   call_failed (Cut len ∷ stages) at call =
       on_err r (EachImage (view.contents new) (view.unsynced new) (leaves (Cut len ∷ stages) P Q))
@@ -364,10 +365,10 @@ module _ {D T E : Type 0} (view : View D)
   call_moments (Store [] ∷ stages) at call = sync_moments stages at call
   call_moments (Store (w ∷ ws) ∷ stages) at call = write_moments w ws stages at call
   call_moments (Turn gate byte ∷ stages) at call = gate_moments gate byte stages at call
-  call_moments (Settle ∷ stages) at call = settle_moments stages at call
+  call_moments (MakeDurable ∷ stages) at call = settle_moments stages at call
   call_moments (Cut len ∷ stages) at call = cut_moments len stages at call
 
--- a fault is told only where the device failed
+-- a fault is reported only if the device failed
 pub call_cause : {D T E : Type 0} (view : View D) (left : List Stage)
     (old new : D) (r : Result T E)
     → CallsOnce view left old new r
@@ -379,12 +380,12 @@ call_cause view (Store (w ∷ ws) ∷ stages) old new r call =
     call.cause
 call_cause view (Turn gate byte ∷ stages) old new r call =
     call.cause
-call_cause view (Settle ∷ stages) old new r call =
+call_cause view (MakeDurable ∷ stages) old new r call =
     call.cause
 call_cause view (Cut len ∷ stages) old new r call =
     call.cause
 
--- ---- plans one behind another
+-- ---- plans one after another
 
 pub calls_left-append : (xs ys : List Stage)
     → calls_left (xs ++ ys) ≡ calls_left xs + calls_left ys
@@ -398,7 +399,7 @@ gone_through-append (Store writes ∷ xs) ys contents =
     gone_through-append xs ys (written writes contents)
 gone_through-append (Turn gate byte ∷ xs) ys contents =
     gone_through-append xs ys (overwritten gate (byte ∷ []) contents)
-gone_through-append (Settle ∷ xs) ys contents = gone_through-append xs ys contents
+gone_through-append (MakeDurable ∷ xs) ys contents = gone_through-append xs ys contents
 gone_through-append (Cut len ∷ xs) ys contents = gone_through-append xs ys (take len contents)
 
 -- ---- what is left
@@ -409,7 +410,7 @@ one_call_less [] some = absurd (some refl)
 one_call_less (Store [] ∷ stages) some = omega arith
 one_call_less (Store (w ∷ ws) ∷ stages) some = omega arith
 one_call_less (Turn gate byte ∷ stages) some = omega arith
-one_call_less (Settle ∷ stages) some = omega arith
+one_call_less (MakeDurable ∷ stages) some = omega arith
 one_call_less (Cut len ∷ stages) some = omega arith
 
 pub leaves_so : (left : List Stage) (P Q R S : List ℕ → Type 0)
@@ -426,24 +427,24 @@ leaves_so (Turn gate byte ∷ stages) P Q R S f g image l = turned_so stages P Q
       which = elim l.which [ inl p ↦ inl (f image p) | inr q ↦ inr (g image q) ];
     }
     turned_so (stage ∷ stages) P Q R S f g image l = f image l
-leaves_so (Settle ∷ []) P Q R S f g image l = record {
+leaves_so (MakeDurable ∷ []) P Q R S f g image l = record {
   which = elim l.which [ inl p ↦ inl (f image p) | inr q ↦ inr (g image q) ];
 }
-leaves_so (Settle ∷ stage ∷ stages) P Q R S f g image l = f image l
+leaves_so (MakeDurable ∷ stage ∷ stages) P Q R S f g image l = f image l
 leaves_so (Cut len ∷ stages) P Q R S f g image l = f image l
 
--- what leaves one fact only
+-- what leaves only one fact
 pub leaves_one : (left : List Stage) (P : List ℕ → Type 0) (image : List ℕ) → leaves left P P image
     → P image
 leaves_one [] P image l = l
 leaves_one (Store writes ∷ left) P image l = l
 leaves_one (Turn gate byte ∷ []) P image l = elim l.which [ inl p ↦ p | inr q ↦ q ]
 leaves_one (Turn gate byte ∷ stage ∷ left) P image l = l
-leaves_one (Settle ∷ []) P image l = elim l.which [ inl p ↦ p | inr q ↦ q ]
-leaves_one (Settle ∷ stage ∷ left) P image l = l
+leaves_one (MakeDurable ∷ []) P image l = elim l.which [ inl p ↦ p | inr q ↦ q ]
+leaves_one (MakeDurable ∷ stage ∷ left) P image l = l
 leaves_one (Cut len ∷ left) P image l = l
 
--- ---- a first fact that says less
+-- ---- a weaker first fact
 
 module _ (P R Q : List ℕ → Type 0) (less : (x : List ℕ) → P x → R x) where
   claim_less : (stages : List Stage) (x : List ℕ) → claim_behind stages P Q x
@@ -479,7 +480,7 @@ module _ (P R Q : List ℕ → Type 0) (less : (x : List ℕ) → P x → R x) w
     };
     behind = ready_less long stages (overwritten gate (byte ∷ []) x) ready.behind;
   }
-  ready_less long (Settle ∷ stages) x ready = ready
+  ready_less long (MakeDurable ∷ stages) x ready = ready
   ready_less long (Cut len ∷ stages) x ready = record {
     guard = ready.guard;
     rests = rests_less ready.guard x ready.rests;

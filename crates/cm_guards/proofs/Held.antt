@@ -4,13 +4,13 @@
 use Rattle.std.proofs.Common.{ℕ, List}
 use Rattle.cm_disk.specs.Disk.{widened, shortened}
 use Rattle.cm_guards.specs.Laws.{GuardedHolds, HoldsDuringWrites, HoldsAfterWrites}
-use Rattle.cm_guards.specs.Laws.{HoldsDuringCuts, HoldsAfterCuts, SettledHolds, SettledKeeps}
+use Rattle.cm_guards.specs.Laws.{HoldsDuringCuts, HoldsAfterCuts, DurableHolds, DurableKeeps}
 use Rattle.cm_guards.specs.Laws.{PlansGoOn, PlansKeep}
 use Rattle.cm_guards.specs.Laws.{TurnsDuring, TurnsAfter, TurnsContents}
 use Rattle.cm_guards.proofs.Kept.{guarded_images, keeps_during, keeps_write, write_agrees}
-use Rattle.cm_guards.proofs.Kept.{keeps_shortened, keeps_cut, cut_agrees, keeps_settled}
+use Rattle.cm_guards.proofs.Kept.{keeps_shortened, keeps_cut, cut_agrees, keeps_durable}
 use Rattle.cm_guards.proofs.Planned.{plan_goes_on, written_goes_on, kept_by_plan}
-use Rattle.cm_guards.proofs.Gated.{settled_images, turned_during, turned_after, turned}
+use Rattle.cm_guards.proofs.Gated.{durable_images, turned_during, turned_after, turned}
 
 module _ (P : List ℕ → Type 0) where
   pub guarded_holds : GuardedHolds P
@@ -41,17 +41,17 @@ module _ (P : List ℕ → Type 0) where
         holds;
   }
 
-  pub settled_holds : SettledHolds P
-  settled_holds contents unsynced settled holds =
-      settled_images P contents unsynced settled holds
+  pub durable_holds : DurableHolds P
+  durable_holds contents unsynced durable holds =
+      durable_images P contents unsynced durable holds
 
   pub plans_keep : PlansKeep P
   plans_keep g writes contents guards long can holds =
       kept_by_plan g P writes contents guards long can holds
 
-pub settled_keeps : SettledKeeps
-settled_keeps g contents unsynced ends long settled =
-    keeps_settled g contents unsynced ends long settled
+pub durable_keeps : DurableKeeps
+durable_keeps g contents unsynced ends long durable =
+    keeps_durable g contents unsynced ends long durable
 
 pub plans_go_on : PlansGoOn
 plans_go_on g w writes old new can e = record {
@@ -61,12 +61,12 @@ plans_go_on g w writes old new can e = record {
 
 module _ (P Q : List ℕ → Type 0) where
   pub turns_during : TurnsDuring P Q
-  turns_during gate byte base unsynced turns settled =
-      turned_during P Q gate byte base unsynced turns settled
+  turns_during gate byte base unsynced turns durable =
+      turned_during P Q gate byte base unsynced turns durable
 
   pub turns_after : TurnsAfter P Q
-  turns_after gate byte base now before after turns settled torn within =
-      turned_after P Q gate byte base now before after turns settled torn within
+  turns_after gate byte base now before after turns durable torn within =
+      turned_after P Q gate byte base now before after turns durable torn within
 
   pub turns_contents : TurnsContents P Q
   turns_contents gate byte base now turns e = turned P Q gate byte base now turns e

@@ -1,4 +1,4 @@
--- What is guarded stays, in each image too, while what isn't is written or cut.
+-- What is guarded stays, in each image too, while other bytes are written or cut.
 -- For `cuts_behind_keep_a_claim`, `gates_turn_claims`, `guarded_claim_holds_of_each_image` and
 -- others.
 use Rattle.std.proofs.Common.{◌≡◌, ◌<◌, ◌≤◌, ℕ, Bool, true, false, List, length, get_or}
@@ -6,7 +6,7 @@ use Rattle.std.proofs.Common.{sym, ◌∙◌, ap, arith}
 use Rattle.std.specs.Prelude.{◌||◌}
 use Rattle.std.proofs.lemmas.Bool.{false≢true}
 use Rattle.std.proofs.lemmas.List.{get_or-take}
-use Rattle.cm_disk.specs.Disk.{Unsynced, IsImage, IsWithin, IsSettled, widened, shortened}
+use Rattle.cm_disk.specs.Disk.{Unsynced, IsImage, IsWithin, IsDurable, widened, shortened}
 use Rattle.cm_disk.specs.Disk.{is_among}
 use Rattle.cm_disk.specs.Calls.{IsTorn, IsCut}
 use Rattle.cm_disk.proofs.{false_before, torn_same}
@@ -22,7 +22,7 @@ image_agrees g contents unsynced image keeps is = record {
       sym (is.same i (omega (arith, keeps.least, within)) (keeps.closed i guarded));
 }
 
--- each image has a guarded fact that the contents have
+-- a guarded fact of the contents holds of each image
 pub guarded_images : (g : Guard) (P : List ℕ → Type 0) (contents : List ℕ) (unsynced : Unsynced)
     → Guards g P → Keeps g contents unsynced → P contents → EachImage contents unsynced P
 guarded_images g P contents unsynced guards keeps holds = record {
@@ -37,7 +37,7 @@ neither false b e f = f
 
 -- ---- a write apart from what is guarded
 
--- while it runs
+-- while the write runs
 pub keeps_during : (g : Guard) (at n : ℕ) (contents : List ℕ) (unsynced : Unsynced) → IsApart g at n
     → Keeps g contents unsynced → Keeps g contents (widened at n unsynced)
 keeps_during g at n contents unsynced apart keeps = record {
@@ -49,7 +49,7 @@ keeps_during g at n contents unsynced apart keeps = record {
       (apart.apart i guarded);
 }
 
--- no more is unsynced
+-- the same if no more is unsynced
 pub keeps_within : (g : Guard) (contents : List ℕ) (most unsynced : Unsynced)
     → IsWithin most unsynced → Keeps g contents most → Keeps g contents unsynced
 keeps_within g contents most unsynced within keeps = record {
@@ -61,7 +61,7 @@ keeps_within g contents most unsynced within keeps = record {
       (keeps.closed i guarded);
 }
 
--- other contents that agree
+-- the same for other contents that agree
 keeps_agreed : (g : Guard) (old new : List ℕ) (unsynced : Unsynced) → Agrees g old new
     → Keeps g old unsynced → Keeps g new unsynced
 keeps_agreed g old new unsynced agrees keeps = record {
@@ -71,7 +71,7 @@ keeps_agreed g old new unsynced agrees keeps = record {
   closed = keeps.closed;
 }
 
--- what it leaves, done or not
+-- what the write leaves, whether it succeeded or failed
 pub write_agrees : (g : Guard) (at n : ℕ) (old new : List ℕ) → g.needs ≤ length old → IsApart g at n
     → IsTorn at n old new → Agrees g old new
 write_agrees g at n old new long apart torn = record {
@@ -87,7 +87,7 @@ keeps_write g at n old new before after apart torn within keeps =
     (keeps_within g old (widened at n before) after within
     (keeps_during g at n old before apart keeps))
 
--- ---- a cut behind what is guarded
+-- ---- a cut after what is guarded
 
 pub keeps_shortened : (g : Guard) (len : ℕ) (contents : List ℕ) (unsynced : Unsynced)
     → g.needs ≤ len → Keeps g contents unsynced → Keeps g contents (shortened len unsynced)
@@ -117,11 +117,11 @@ keeps_cut g len old new before after behind cut within keeps =
 
 -- ---- a sync
 
-pub keeps_settled : (g : Guard) (contents : List ℕ) (unsynced : Unsynced) → IsBounded g
-    → g.needs ≤ length contents → IsSettled contents unsynced → Keeps g contents unsynced
-keeps_settled g contents unsynced ends long settled = record {
+pub keeps_durable : (g : Guard) (contents : List ℕ) (unsynced : Unsynced) → IsBounded g
+    → g.needs ≤ length contents → IsDurable contents unsynced → Keeps g contents unsynced
+keeps_durable g contents unsynced ends long durable = record {
   ends = ends;
-  least = omega (arith, long, settled.least);
+  least = omega (arith, long, durable.least);
   long = long;
-  closed = λ i guarded. settled.none_open i;
+  closed = λ i guarded. durable.none_open i;
 }

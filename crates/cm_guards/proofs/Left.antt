@@ -53,7 +53,7 @@ module _ {D : Type 0} (view : View D) where
         (second.before t image (omega (arith, le, first.later)) left);
   }
 
-  -- less is said of them
+  -- the same with a weaker fact
   pub leaves_more : (old new : D) (P Q : List ℕ → Type 0) → ((image : List ℕ) → P image → Q image)
       → LeavesOnly view old new P → LeavesOnly view old new Q
   leaves_more old new P Q more leaves = record {
@@ -112,7 +112,7 @@ module _ {D : Type 0} (view : View D) where
         second.no_cause (λ g. none (inr g)) ∙ first.no_cause (λ f. none (inl f));
   }
 
-  -- its faults are told in other words
+  -- the same with its faults described differently
   pub reads_as : (a b : D) (F G : Type 0) → (G → F) → (F → G)
       → Reads view a b F
       → Reads view a b G
@@ -125,7 +125,7 @@ module _ {D : Type 0} (view : View D) where
     no_cause = λ none. reads.no_cause (λ f. none (more f));
   }
 
-  -- a read behind a run of reads that met no fault
+  -- a read after a run of reads that met no fault
   pub read_after : {T E : Type 0} (first old new : D) (F : Type 0) (result : Result T E)
       → OnlyNow view
       → Reads view first old F
@@ -137,7 +137,7 @@ module _ {D : Type 0} (view : View D) where
       (reads_on first old new F (IsErr result) run
       (one_read old new result only_now look))
 
-  -- a read behind a run of reads, where the run goes on
+  -- a read after a run of reads, if the run continues
   pub read_more : {T E : Type 0} (first old new : D) (F : Type 0) (result : Result T E)
       → OnlyNow view
       → Reads view first old F

@@ -1,4 +1,4 @@
--- Writes that are left: what one of them leaves of the plan, and what all of them leave.
+-- Writes that are left: what remains of the plan after one of them, and what all of them leave.
 -- For `cuts_behind_keep_a_claim`, `gates_turn_claims`, `guarded_claim_holds_of_each_image` and
 -- others.
 use Rattle.std.proofs.Common.{◌≡◌, ◌≤◌, ◌+◌, ℕ, List, [], ◌∷◌, ◌++◌, length, take, drop, refl, sym}
@@ -34,7 +34,7 @@ pub written_goes_on : (w : Write) (writes : List Write) (old new : List ℕ)
     → new ≡ overwritten w.at w.bytes old → written (w ∷ writes) old ≡ written writes new
 written_goes_on w writes old new e = ap (written writes) (sym e)
 
--- all of them leave what is guarded
+-- all of them preserve what is guarded
 pub plan_agrees : (g : Guard) (writes : List Write) (old : List ℕ) → g.needs ≤ length old
     → CanWrite g writes (length old) → Agrees g old (written writes old)
 plan_agrees g [] old long can = record { long = long; same = λ i guarded. refl }

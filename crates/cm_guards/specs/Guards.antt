@@ -1,5 +1,5 @@
 -- What a fact on a disk's contents rests on, and when a crash can't touch that. No layout is known
--- here: a guard says which positions count, whatever stands there.
+-- here: a guard says which positions count, whatever their bytes are.
 use Rattle.std.specs.Prelude.{◌≡◌, ◌<◌, ◌≤◌, ℕ, Bool, true, false, List, length, get_or}
 use Rattle.cm_disk.specs.Disk.{Unsynced, IsImage, is_among}
 
@@ -8,16 +8,16 @@ pub record Guard : Type 0 where
   pub is_guarded : ℕ → Bool
   pub needs : ℕ
 
--- the contents have the bytes that the guard needs, and b has those of a wherever it guards
+-- the contents have the bytes that the guard needs, and b agrees with a at each guarded position
 pub record Agrees (g : Guard) (a b : List ℕ) : Type 0 where
   pub long : g.needs ≤ length b
   pub same : (i : ℕ) → g.is_guarded i ≡ true → get_or a i 0 ≡ get_or b i 0
 
--- The fact rests on nothing else: of contents that agree, one has it where the other does.
+-- The fact rests on nothing else: if contents agree and it holds of one, it holds of the other.
 pub record Guards (g : Guard) (P : List ℕ → Type 0) : Type 0 where
   pub carries : (a b : List ℕ) → g.needs ≤ length a → Agrees g a b → P a → P b
 
--- what is guarded lies within the bytes that are needed
+-- what is guarded is within the bytes that are needed
 abbrev pub IsBounded : Guard → Type 0
 IsBounded g = (i : ℕ) → g.is_guarded i ≡ true → i < g.needs
 
@@ -28,7 +28,7 @@ pub record Keeps (g : Guard) (contents : List ℕ) (unsynced : Unsynced) : Type 
   pub long : g.needs ≤ length contents
   pub closed : (i : ℕ) → g.is_guarded i ≡ true → unsynced.is_open i ≡ false
 
--- each image that a crash may leave has the fact
+-- the fact holds of each image that a crash may leave
 pub record EachImage (contents : List ℕ) (unsynced : Unsynced) (P : List ℕ → Type 0) : Type 0 where
   pub each : (image : List ℕ) → IsImage contents unsynced image → P image
 

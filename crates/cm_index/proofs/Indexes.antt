@@ -29,7 +29,8 @@ use Rattle.cm_index.specs.declared.index.IndexEntry.{IndexEntry}
 use Rattle.cm_index.specs.declared.slot.BookSlot.{BookSlot}
 use Rattle.cm_index.specs.Living.{living, moved_slot}
 use Rattle.cm_index.specs.Index.{class_of, owner_of, rank, name_in, is_named, key, tail_at, key_at}
-use Rattle.cm_index.specs.Index.{keys_at, IsEntry, IsIndex, IsKeyAt, Parts, Rise, Leads, LivesAt}
+use Rattle.cm_index.specs.Index.{keys_at, IsEntry, IsIndex, IsKeyAt, SplitsKeys, Rise, ReachesRow}
+use Rattle.cm_index.specs.Index.{LivesAt}
 use Rattle.cm_index.specs.Index.{leads_to_life, renewed, number_in, kept_in}
 use Rattle.cm_index.proofs.Tests.{both_true}
 use Rattle.cm_index.proofs.Tests.{ne-eqb}
@@ -59,7 +60,7 @@ find-true p (y ∷ xs) x h = by_test (find-true p xs x) (p y) refl h
     by_test behind true e h = let is : y ≡ x = cc in ap p (sym is) ∙ e
     by_test behind false e h = behind h
 
--- a test that f doesn't change
+-- f doesn't change what the test says
 find-map : {X : Type 0} (f : X → X) (p : X → Bool) (xs : List X) → ((x : X) → p (f x) ≡ p x)
     → find p (map f xs) ≡ option_map f (find p xs)
 find-map f p [] same = refl
@@ -101,7 +102,7 @@ module _ {P : Type 0} (name_of : P → List ℕ) where
 
 -- ---- what a search finds
 
--- of one key there is one entry
+-- there is one entry of each key
 same-key : {X : Type 0} (f : X → List ℕ) (xs : List X) (x : X) (i : ℕ) (d : X) → Rise (map f xs)
     → Among x xs → i < length xs → f x ≡ f (get_or xs i d) → x ≡ get_or xs i d
 same-key f [] x i d h none lt e = absurd none
@@ -134,7 +135,7 @@ module _ {P : Type 0} where
   leads-is slots e s there =
       ap (λ (o : Option (BookSlot (Row P))). option_map_or (λ s. s.live) o false) there
 
-  -- where an entry leads to life, it leads somewhere
+  -- if an entry leads to a live row, it leads to a place
   pub leads-there : (slots : List (BookSlot (Row P))) (e : IndexEntry) → leads_to_life slots e
       ≡ true
       → (s : BookSlot (Row P)) × (slice_get slots e.at ≡ Some s)
@@ -197,7 +198,7 @@ module _ {P : Type 0} (mark : ℕ → List ℕ → ℕ) (name_of : P → List �
       }
 
   pub absent-at : (slots : List (BookSlot (Row P))) (es : List IndexEntry) (i o : ℕ) (x : List ℕ)
-      → IsIndex mark name_of slots es → Parts (keys_at name_of slots es) i (key mark o x)
+      → IsIndex mark name_of slots es → SplitsKeys (keys_at name_of slots es) i (key mark o x)
       → find (is_named name_of o x) (living slots) ≡ None
   absent-at slots es i o x h p =
       option-none (find (is_named name_of o x) (living slots)) (λ row is.
@@ -206,7 +207,7 @@ module _ {P : Type 0} (mark : ℕ → List ℕ → ℕ) (name_of : P → List �
       (subst (λ (k : List ℕ). Among k (keys_at name_of slots es)) l.key_is
       (among-map (key_at name_of slots) l.entry es l.among)))
 
-  -- ---- a row more
+  -- ---- one row more
 
   entry-left : (slots more : List (BookSlot (Row P))) (e : IndexEntry)
       → IsEntry mark name_of slots e
@@ -240,9 +241,10 @@ module _ {P : Type 0} (mark : ℕ → List ℕ → ℕ) (name_of : P → List �
       ∷ keys_at name_of (slots ++ more) es) same
       ∙ ap (λ (ks : List (List ℕ)). key_at name_of slots e ∷ ks) (keys-left slots more es h.1)
 
-  -- what leads to life goes on to do so, among more entries
+  -- what leads to a live row still does so, among more entries
   leads-left : (slots more : List (BookSlot (Row P))) (es fs : List IndexEntry) (k : List ℕ)
-      → (l : Leads name_of slots es k) → Among l.entry fs → Leads name_of (slots ++ more) fs k
+      → (l : ReachesRow name_of slots es k) → Among l.entry fs
+      → ReachesRow name_of (slots ++ more) fs k
   leads-left slots more es fs k l among =
       let t = leads-there slots l.entry l.lives in
       let there : slice_get (slots ++ more) l.entry.at ≡ Some t.0 =
@@ -256,7 +258,7 @@ module _ {P : Type 0} (mark : ℕ → List ℕ → ℕ) (name_of : P → List �
             ∙ sym (leads-is slots l.entry t.0 t.1) ∙ l.lives;
       }
 
-  -- what is first after a row more is first before, or is the row
+  -- the first row, once a row is added, was the first before, or is the added one
   first-more : (slots : List (BookSlot (Row P))) (s : BookSlot (Row P)) (r : Row P) (o : ℕ)
       (x : List ℕ)
       → s.live ≡ true → find (is_named name_of o x) (living (slots ++ s ∷ [])) ≡ Some r
@@ -277,7 +279,7 @@ module _ {P : Type 0} (mark : ℕ → List ℕ → ℕ) (name_of : P → List �
       by_test true e h = e
       by_test false e h = absurd (cc)
 
-  -- a row whose owner and name a living one has already
+  -- a row of an owner and a name that a live row already has
   index-known : (slots : List (BookSlot (Row P))) (s : BookSlot (Row P)) (before : Row P)
       (es : List IndexEntry)
       → s.live ≡ true → IsIndex mark name_of slots es
@@ -302,7 +304,7 @@ module _ {P : Type 0} (mark : ℕ → List ℕ → ℕ) (name_of : P → List �
         few = omega (arith, h.few, length-append slots (s ∷ []));
       }
 
-  -- the entry of a row that is put behind the others, where none of them that lives is first
+  -- the entry of a row that is appended, if none of the live rows before it is first
   record IsNew (slots : List (BookSlot (Row P))) (s : BookSlot (Row P)) (new : IndexEntry) : Type 0
     where
       own : key_at name_of (slots ++ s ∷ []) new
@@ -341,7 +343,7 @@ module _ {P : Type 0} (mark : ℕ → List ℕ → ℕ) (name_of : P → List �
       (i f n : ℕ)
       → s.live ≡ true → IsIndex mark name_of slots es → n ≡ length slots
       → f ≡ mark (rank (owner_of s.item)) (name_in name_of s.item)
-      → Parts (keys_at name_of slots es) i
+      → SplitsKeys (keys_at name_of slots es) i
       (key mark (rank (owner_of s.item)) (name_in name_of s.item))
       → IsIndex mark name_of (slots ++ s ∷ []) (insert es i (record { fingerprint = f; at = n }))
   index-new slots s es i f n live h last fingerprint p =
@@ -398,7 +400,7 @@ module _ {P : Type 0} (mark : ℕ → List ℕ → ℕ) (name_of : P → List �
             | inr right ↦ among-right a xs (b ∷ ys) (inr right)
           ]
 
-  -- one of a list put in the place of another
+  -- an item of a list replaced by another
   all-put : {X : Type 0} (Q : X → Type 0) (xs : List X) (i : ℕ) (y : X) → AllByRecursion Q xs → Q y
       → AllByRecursion Q (set xs i y)
   all-put Q [] i y h q = h
@@ -425,7 +427,7 @@ module _ {P : Type 0} (mark : ℕ → List ℕ → ℕ) (name_of : P → List �
   among-new (x ∷ xs) zero y lt = inl refl
   among-new (x ∷ xs) (suc i) y lt = inr (among-new xs i y (omega arith))
 
-  -- a row of an owner and a name of which a row stands that lives no more
+  -- a row of an owner and a name that a dead row has
   index-again : (slots : List (BookSlot (Row P))) (s : BookSlot (Row P)) (es : List IndexEntry)
       (i f n : ℕ)
       (d : IndexEntry)
@@ -674,7 +676,7 @@ module _ {P : Type 0} (mark : ℕ → List ℕ → ℕ) (name_of : P → List �
       → IsIndex mark name_of (take at slots) es
       → f ∷ drop 1 k ≡ key mark (rank (owner_of s.item)) (name_in name_of s.item)
       → k ≡ key mark (rank (owner_of s.item)) (name_in name_of s.item)
-      → Parts (keys_at name_of (take at slots) es) i k
+      → SplitsKeys (keys_at name_of (take at slots) es) i k
       → IsIndex mark name_of (take (at + 1) slots)
       (insert es i (record { fingerprint = f; at = at }))
   further-new slots at s es i f k lt is live h fingerprint key_is p =
@@ -686,9 +688,9 @@ module _ {P : Type 0} (mark : ℕ → List ℕ → ℕ) (name_of : P → List �
       (insert es i (record { fingerprint = f; at = at }))) more
       (index-new mark name_of (take at slots) s es i f at lives h
       (omega (arith, length-take at slots)) first
-      (subst (Parts (keys_at name_of (take at slots) es) i) key_is p))
+      (subst (SplitsKeys (keys_at name_of (take at slots) es) i) key_is p))
 
-  -- an entry that is found leads to one of those before
+  -- an entry that is found leads to one of the rows before
   pub found-within : (slots : List (BookSlot (Row P))) (at : ℕ) (e : IndexEntry) (o : ℕ)
       (x : List ℕ)
       → Found mark name_of (take at slots) e o x → (s : BookSlot (Row P))

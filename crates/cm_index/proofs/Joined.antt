@@ -1,4 +1,4 @@
--- Lists in blocks: what is done to one block, said of all entries.
+-- Lists in blocks: what a change of one block means for all entries.
 -- For `Index::with_room`, `IndexBlock::fill`, `block_of` and others.
 use Rattle.std.proofs.Common.{◌≡◌, ℕ, zero, suc, ◌+◌, ◌*◌, ◌-◌, ◌<◌, ◌≤◌, List, [], ◌∷◌, ◌++◌}
 use Rattle.std.proofs.Common.{length, take, drop, get_or, set, refl, sym, ◌∙◌, ap, subst, arith}
@@ -12,7 +12,7 @@ use Rattle.std.proofs.lemmas.List.Edits.{insert-append_left, insert-append_right
 use Rattle.std.proofs.lemmas.List.Concat.{flat_map-append, get_or-flat_map}
 use Rattle.cm_index.specs.Blocks.{joined, halved}
 
--- what is put behind a list and turned to its front
+-- what is appended to a list and rotated to its front
 pub turned : {X : Type 0} (xs ys : List X) (kept n : ℕ) → n ≡ length xs
     → take kept ys ++ (drop n (xs ++ take (length ys - kept) (drop kept ys))
     ++ take n (xs ++ take (length ys - kept) (drop kept ys))) ≡ ys ++ xs
@@ -47,7 +47,7 @@ module _ {X : Type 0} where
       ap (drop (length (joined (take i bs)))) (joined-parts bs i)
       ∙ drop_at (joined (take i bs)) (joined (drop i bs)) (length (joined (take i bs))) refl
 
-  -- one block, with those before it and those behind it
+  -- one block, with those before it and those after it
   pub joined-around : (bs : List (List X)) (i : ℕ) → i < length bs
       → joined bs ≡ joined (take i bs) ++ (get_or bs i [] ++ joined (drop (suc i) bs))
   joined-around [] i lt = absurd (omega arith)
@@ -73,7 +73,7 @@ module _ {X : Type 0} where
       → get_or (joined bs) (length (joined (take i bs)) + j) d ≡ get_or (get_or bs i []) j d
   get-joined bs i j d lt within = get_or-flat_map (λ b. b) bs i j [] d lt within
 
-  -- a block changed in the place of another
+  -- a block replaced by a changed one
   pub set-joined : (bs : List (List X)) (i j : ℕ) (x : X) → i < length bs
       → j < length (get_or bs i [])
       → joined (set bs i (set (get_or bs i []) j x))
@@ -121,7 +121,7 @@ module _ {X : Type 0} where
   joined-split (b ∷ bs) (suc i) lower upper lt is =
       ap (λ l. b ++ l) (joined-split bs i lower upper (omega arith) is)
 
-  -- what stands before the lower half, and before the upper
+  -- what is before the lower half, and before the upper
   pub before-lower : (bs : List (List X)) (i : ℕ) (lower upper : List X) → i < length bs
       → take i (split_in bs i lower upper) ≡ take i bs
   before-lower [] i lower upper lt = absurd (omega arith)
@@ -204,7 +204,7 @@ module _ {X : Type 0} where
   length-halved bs i lt = ap length (halved-is bs i)
       ∙ length-split bs i (take 512 (get_or bs i [])) (drop 512 (get_or bs i [])) lt
 
-  -- ---- what holds of each block
+  -- ---- what holds for each block
 
   module _ (Q : List X → Type 0) where
     pub all-set : (bs : List (List X)) (i : ℕ) (b : List X) → AllByRecursion Q bs → Q b
@@ -225,7 +225,7 @@ module _ {X : Type 0} where
     each-at (b ∷ bs) zero d h lt = h.0
     each-at (b ∷ bs) (suc i) d h lt = each-at bs i d h.1 (omega arith)
 
-    -- of each but the first
+    -- for each block but the first
     pub later-set : (bs : List (List X)) (i : ℕ) (b : List X) → AllByRecursion Q (drop 1 bs) → Q b
         → AllByRecursion Q (drop 1 (set bs i b))
     later-set [] i b h q = tt
@@ -260,7 +260,7 @@ module _ {X : Type 0} where
   halves-full (b ∷ bs) (suc i) h lt full =
       omega (arith, h.0, halves-full bs i h.1 (omega arith) full, length-append b (joined bs))
 
-  -- where a block is full, there are no more blocks than are half full
+  -- if a block is full, the blocks together are at least half full
   pub crowded : (bs : List (List X)) (i : ℕ) → AllByRecursion IsHalf (drop 1 bs) → i < length bs
       → 1024 ≤ length (get_or bs i []) → 512 * length bs ≤ length (joined bs)
   crowded [] i h lt full = omega arith
@@ -268,7 +268,7 @@ module _ {X : Type 0} where
   crowded (b ∷ bs) (suc i) h lt full =
       omega (arith, halves-full bs i h (omega arith) full, length-append b (joined bs))
 
-  -- an entry in the place of another
+  -- an entry replaced by another
   half-kept : (bs : List (List X)) (i j : ℕ) (x : X) → AllByRecursion IsHalf bs
       → AllByRecursion IsHalf (set bs i (set (get_or bs i []) j x))
   half-kept [] i j x h = tt
@@ -293,7 +293,7 @@ module _ {X : Type 0} where
       (later-set IsHalf bs i (take 512 b) h lower) upper
       (omega (arith, length-set bs i (take 512 b))))
 
-  -- ---- a block in which what stood before it is put too
+  -- ---- a block that also takes what was in the block before it
 
   pub next-block : (bs : List (List X)) (i : ℕ) (d : List X) → suc i < length bs
       → get_or (remove bs i) i d ≡ get_or bs (suc i) d

@@ -7,7 +7,7 @@ mod Indexes
 mod Searching
 mod Sweeping
 mod Unloading
--- What lives of places that are joined, changed, swept and unloaded.
+-- The live items of places that are joined, changed, swept and unloaded.
 pub use Living.{living-append, living-push, living-swept, swept-live, length-swept, length-living}
 pub use Living.{living-unloaded, living-moved}
 -- An index over rows: what a search in it finds, and the index of rows that change.

@@ -1,4 +1,4 @@
--- What lives of places that are joined, changed, swept and unloaded.
+-- The live items of places that are joined, changed, swept and unloaded.
 -- For `IndexBlock::sweep`, `add_entry`, `block_of` and others.
 use Rattle.std.proofs.Common.{◌≡◌, ℕ, suc, ◌≤◌, Bool, true, false, cond, List, []}
 use Rattle.std.proofs.Common.{◌∷◌, ◌++◌, map, length, refl, ◌∙◌, ap, arith}
@@ -24,7 +24,7 @@ module _ {X : Type 0} where
   living-one : (s : BookSlot X) → s.live ≡ true → living (s ∷ []) ≡ s.item ∷ []
   living-one s h = ap (λ (t : Bool). cond t (s.item ∷ []) []) h
 
-  -- one more that lives
+  -- one more live item
   pub living-push : (xs : List (BookSlot X)) (s : BookSlot X) → s.live ≡ true
       → living (xs ++ s ∷ []) ≡ living xs ++ s.item ∷ []
   living-push xs s h = living-append xs (s ∷ []) ∙ ap (λ l. living xs ++ l) (living-one s h)
@@ -47,7 +47,7 @@ module _ {X : Type 0} where
       by_test true e behind = (e, behind)
       by_test false e behind = behind
 
-  -- as many as live are left
+  -- as many are left as live
   pub length-swept : (xs : List (BookSlot X)) → length (swept xs) ≡ length (living xs)
   length-swept [] = refl
   length-swept (s ∷ xs) = by_test s.live (length-swept xs)

@@ -1,4 +1,5 @@
--- A search in blocks: what one key says of the others, and what is found in one block, of all.
+-- A search in blocks: what one key says about the others, and how a find in one block is a find
+-- among all.
 -- For `block_of`, `find_row`, `search`, `sweep_blocks`.
 use Rattle.std.proofs.Common.{◌≡◌, ℕ, suc, ◌+◌, ◌<◌, List, [], ◌++◌, map, length, take, drop}
 use Rattle.std.proofs.Common.{get_or, sym, ◌∙◌, ap, subst, arith, add-one, length-append}
@@ -10,7 +11,8 @@ use Rattle.std.specs.declared.cmp.Ordering.TheVariants.{Greater}
 use Rattle.cm_layout.specs.declared.row.Row.{Row}
 use Rattle.cm_index.specs.declared.index.IndexEntry.{IndexEntry}
 use Rattle.cm_index.specs.declared.slot.BookSlot.{BookSlot}
-use Rattle.cm_index.specs.Index.{key, key_at, keys_at, Rise, Parts, IsKeyAt, IsIndex, Below, Above}
+use Rattle.cm_index.specs.Index.{key, key_at, keys_at, Rise, SplitsKeys, IsKeyAt, IsIndex, Below}
+use Rattle.cm_index.specs.Index.{Above}
 use Rattle.cm_index.proofs.Indexes.{Found, found-there}
 use Rattle.cm_index.specs.Blocks.{joined}
 use Rattle.cm_index.proofs.Sorted.{before-to, above-from, parts-inside}
@@ -61,7 +63,7 @@ module _ {P : Type 0} (name_of : P → List ℕ) (slots : List (BookSlot (Row P)
       subst (AllByRecursion (Above k)) (drop-map (key_at name_of slots) p (joined bs)
       ∙ ap (map (key_at name_of slots)) (drop-joined bs m)) above
 
-  -- the keys of one block, with those before it and those behind it
+  -- the keys of one block, with those before it and those after it
   keys-around : (bs : List (List IndexEntry)) (m : ℕ) → m < length bs
       → keys (joined bs) ≡ keys (joined (take m bs))
       ++ (keys (get_or bs m []) ++ keys (joined (drop (suc m) bs)))
@@ -72,7 +74,7 @@ module _ {P : Type 0} (name_of : P → List ℕ) (slots : List (BookSlot (Row P)
       ∙ ap (λ l. keys (joined (take m bs)) ++ l)
       (map-append (key_at name_of slots) (get_or bs m []) (joined (drop (suc m) bs)))
 
-  -- what holds of all entries holds of those of one block
+  -- what holds for all entries holds for those of one block
   pub rises-in : (bs : List (List IndexEntry)) (m : ℕ) → Rise (keys (joined bs)) → m < length bs
       → Rise (keys (get_or bs m []))
   rises-in bs m rises lt =
@@ -102,8 +104,8 @@ module _ {P : Type 0} (name_of : P → List ℕ) (slots : List (BookSlot (Row P)
   pub absent-in : (bs : List (List IndexEntry)) (m i : ℕ) (k : List ℕ) → m < length bs
       → AllByRecursion (Below k) (keys (joined (take m bs)))
       → AllByRecursion (Above k) (keys (joined (drop (m + 1) bs)))
-      → Parts (keys (get_or bs m [])) i k
-      → Parts (keys (joined bs)) (length (joined (take m bs)) + i) k
+      → SplitsKeys (keys (get_or bs m [])) i k
+      → SplitsKeys (keys (joined bs)) (length (joined (take m bs)) + i) k
   absent-in bs m i k lt below above p =
       let behind =
       subst (λ (n : ℕ). AllByRecursion (Above k) (keys (joined (drop n bs)))) (add-one m) above in
@@ -111,8 +113,8 @@ module _ {P : Type 0} (name_of : P → List ℕ) (slots : List (BookSlot (Row P)
       (keys (joined (drop (suc m) bs))) i k below p behind in
       let long : length (keys (joined (take m bs))) + i ≡ length (joined (take m bs)) + i =
       omega (arith, length-map (joined (take m bs)) (key_at name_of slots)) in
-      subst (λ (n : ℕ). Parts (keys (joined bs)) n k) long
-      (subst (λ ks. Parts ks (length (keys (joined (take m bs))) + i) k)
+      subst (λ (n : ℕ). SplitsKeys (keys (joined bs)) n k) long
+      (subst (λ ks. SplitsKeys ks (length (keys (joined (take m bs))) + i) k)
       (sym (keys-around bs m lt)) all)
 
 pub all-in : {X : Type 0} (Q : X → Type 0) (bs : List (List X)) (m : ℕ)

@@ -1,4 +1,4 @@
--- Keys that rise: what a comparison with one says of the others, and a key put among them.
+-- Sorted keys: what a comparison with one says about the others, and a key inserted among them.
 -- For `block_of`.
 use Rattle.std.proofs.Common.{◌≡◌, ℕ, zero, suc, ◌<◌, List, [], ◌∷◌, ◌++◌, length, take}
 use Rattle.std.proofs.Common.{drop, get_or, sym, ◌∙◌, ap, subst, arith, inl, inr}
@@ -15,7 +15,7 @@ use Rattle.std.specs.declared.cmp.Ordering.{Ordering}
 use Rattle.std.specs.declared.cmp.Ordering.TheVariants.{Less, Equal, Greater}
 use Rattle.cm_pool.specs.Lists.{Among}
 use Rattle.cm_pool.proofs.{each-join}
-use Rattle.cm_index.specs.Index.{Rise, Parts, Below, Above}
+use Rattle.cm_index.specs.Index.{Rise, SplitsKeys, Below, Above}
 
 abbrev goes : List ℕ → List ℕ → Ordering
 goes a b = slice_cmp nat_cmp a b
@@ -84,7 +84,7 @@ rise-right (k ∷ ks) ls h = rise-right ks ls h.1
 
 -- ---- a comparison with one key
 
--- those before a key below k are below it too
+-- keys before a key below k are below it too
 pub below-to : (ks : List (List ℕ)) (m : ℕ) (k d : List ℕ) → Rise ks → m < length ks
     → goes (get_or ks m d) k ≡ Less → AllByRecursion (Below k) (take (suc m) ks)
 below-to [] m k d h lt less = absurd (omega arith)
@@ -95,7 +95,7 @@ below-to (a ∷ ks) (suc m) k d h lt less = (
   below-to ks m k d h.1 (omega arith) less,
 )
 
--- those behind a key above k are above it too
+-- keys after a key above k are above it too
 pub above-from : (ks : List (List ℕ)) (m : ℕ) (k d : List ℕ) → Rise ks → m < length ks
     → goes (get_or ks m d) k ≡ Greater → AllByRecursion (Above k) (drop m ks)
 above-from [] m k d h lt more = absurd (omega arith)
@@ -114,7 +114,7 @@ less-through a b k less not = by_order (goes b k) refl
     by_order Equal e = subst (λ (c : List ℕ). goes a c ≡ Less) (equal-is b k e) less
     by_order Greater e = absurd (not e)
 
--- those before a key that isn't above k are below it
+-- keys before a key that isn't above k are below it
 pub before-to : (ks : List (List ℕ)) (m : ℕ) (k d : List ℕ) → Rise ks → m < length ks
     → ¬ (goes (get_or ks m d) k ≡ Greater) → AllByRecursion (Below k) (take m ks)
 before-to [] m k d h lt not = absurd (omega arith)
@@ -124,9 +124,9 @@ before-to (a ∷ ks) (suc m) k d h lt not = (
   before-to ks m k d h.1 (omega arith) not,
 )
 
--- ---- a key more
+-- ---- one more key
 
-pub rise-insert : (ks : List (List ℕ)) (i : ℕ) (k : List ℕ) → Rise ks → Parts ks i k
+pub rise-insert : (ks : List (List ℕ)) (i : ℕ) (k : List ℕ) → Rise ks → SplitsKeys ks i k
     → Rise (take i ks ++ k ∷ drop i ks)
 rise-insert ks zero k h p =
     (all-weaker (Above k) (λ b. goes k b ≡ Less) ks (λ b. turned-above b k) p.above, h)
@@ -143,7 +143,7 @@ rise-insert (a ∷ ks) (suc i) k h p = (
   }),
 )
 
--- a key that parts them is none of theirs
+-- a key that splits others into those below and those above is none of them
 among-parts : (ks : List (List ℕ)) (i : ℕ) (k : List ℕ) → AllByRecursion (Below k) (take i ks)
     → AllByRecursion (Above k) (drop i ks) → ¬ Among k ks
 among-parts [] i k below above none = none
@@ -157,28 +157,28 @@ among-parts (a ∷ ks) (suc i) k below above (inl e) =
     absurd (cc)
 among-parts (a ∷ ks) (suc i) k below above (inr m) = among-parts ks i k below.1 above m
 
-pub parted : (ks : List (List ℕ)) (i : ℕ) (k : List ℕ) → Parts ks i k → ¬ Among k ks
+pub parted : (ks : List (List ℕ)) (i : ℕ) (k : List ℕ) → SplitsKeys ks i k → ¬ Among k ks
 parted ks i k p = among-parts ks i k p.below p.above
 
--- keys that part those of a block, among those of all blocks
+-- keys that split those of a block, among those of all blocks
 pub parts-inside : (before ks behind : List (List ℕ)) (i : ℕ) (k : List ℕ)
-    → AllByRecursion (Below k) before → Parts ks i k → AllByRecursion (Above k) behind
-    → Parts (before ++ (ks ++ behind)) (length before + i) k
+    → AllByRecursion (Below k) before → SplitsKeys ks i k → AllByRecursion (Above k) behind
+    → SplitsKeys (before ++ (ks ++ behind)) (length before + i) k
 parts-inside [] ks behind i k below p above =
     let within : i ≤ length ks = p.within in
-    let here : Parts (ks ++ behind) i k = record {
+    let here : SplitsKeys (ks ++ behind) i k = record {
       within = omega (arith, length-append ks behind, within);
       below = subst (AllByRecursion (Below k)) (sym (take-append-le i ks behind within)) p.below;
       above = subst (AllByRecursion (Above k)) (sym (drop-append-le i ks behind within))
           (each-join (Above k) (drop i ks) behind p.above above);
     } in
-    subst (λ (n : ℕ). Parts (ks ++ behind) n k) (omega arith) here
+    subst (λ (n : ℕ). SplitsKeys (ks ++ behind) n k) (omega arith) here
 parts-inside (a ∷ before) ks behind i k below p above =
     let rest = parts-inside before ks behind i k below.1 p above in
     let within : length before + i ≤ length (before ++ (ks ++ behind)) = rest.within in
-    let here : Parts (a ∷ (before ++ (ks ++ behind))) (suc (length before + i)) k = record {
+    let here : SplitsKeys (a ∷ (before ++ (ks ++ behind))) (suc (length before + i)) k = record {
       within = omega (arith, within);
       below = (below.0, rest.below);
       above = rest.above;
     } in
-    subst (λ (n : ℕ). Parts (a ∷ (before ++ (ks ++ behind))) n k) (omega arith) here
+    subst (λ (n : ℕ). SplitsKeys (a ∷ (before ++ (ks ++ behind))) n k) (omega arith) here

@@ -92,7 +92,7 @@ few-in (k ∷ ks) ys h all =
     ]) in
     omega (arith, fewer, t.count)
 
--- ---- the places of rows behind
+-- ---- the places of later rows
 
 record Placed {X : Type 0} (k : ℕ) (slots : List (BookSlot X)) (i : ℕ) (s : BookSlot X) : Type 0
   where
@@ -302,7 +302,7 @@ fewer-swept slots places es =
       length-map (filter (leads_to_life slots) es) (shifted places),
     )
 
--- block by block, or all at once
+-- sweeping block by block or all at once
 pub joined-swept : {P : Type 0} (slots : List (BookSlot (Row P))) (places : List ℕ)
     (bs : List (List IndexEntry))
     → joined (map (swept_entries slots places) bs) ≡ swept_entries slots places (joined bs)
@@ -313,7 +313,7 @@ joined-swept slots places (b ∷ bs) =
     ∙ map-append (shifted places) (filter (leads_to_life slots) b)
     (filter (leads_to_life slots) (joined bs)))
 
--- ---- each of a list changed in turn
+-- ---- each item of a list changed in turn
 
 abbrev half_changed : {X : Type 0} → (X → X) → List X → ℕ → List X
 half_changed f xs i = map f (take i xs) ++ drop i xs

@@ -23,7 +23,7 @@ use Rattle.cm_index.specs.declared.index.IndexEntry.{IndexEntry}
 use Rattle.cm_index.specs.declared.slot.BookSlot.{BookSlot}
 use Rattle.cm_index.specs.Living.{living, unloaded}
 use Rattle.cm_index.specs.Index.{owner_of, rank, name_in, is_named, key, tail_at, key_at, keys_at}
-use Rattle.cm_index.specs.Index.{IsEntry, IsIndex, AreUnique, Leads}
+use Rattle.cm_index.specs.Index.{IsEntry, IsIndex, AreUnique, ReachesRow}
 use Rattle.cm_index.proofs.Living.{living-unloaded}
 use Rattle.cm_index.proofs.Sorted.{all-among}
 use Rattle.cm_index.proofs.Indexes.{find-true, named-is, leads-is}
@@ -71,10 +71,10 @@ not-not : (b : Bool) → not b ≡ true → b ≡ false
 not-not true h = absurd (cc)
 not-not false h = refl
 
--- ---- the index of rows of which a loader's live no more
+-- ---- the index after an unload, when a loader's rows are dead
 
 module _ {P : Type 0} (mark : ℕ → List ℕ → ℕ) (name_of : P → List ℕ) (u : ℕ) where
-  -- of one owner and one name are a loader's rows alone, or another's
+  -- rows of one owner and one name are all of one loader, or none is
   same-loader : (rows : List (Row P)) → AreUnique rows → (r s : Row P) → Among r rows → Among s rows
       → rank (owner_of r) ≡ rank (owner_of s) → name_in name_of r ≡ name_in name_of s
       → is_of u r ≡ is_of u s
@@ -138,7 +138,7 @@ module _ {P : Type 0} (mark : ℕ → List ℕ → ℕ) (name_of : P → List �
       → AreUnique (living slots)
       → IsIndex mark name_of slots es → (o : ℕ) (x : List ℕ) (row : Row P)
       → find (is_named name_of o x) (without_loader u (living slots)) ≡ Some row
-      → Leads name_of (map (unloaded u) slots) es (key mark o x)
+      → ReachesRow name_of (map (unloaded u) slots) es (key mark o x)
   complete-unloaded slots es unique h o x row is =
       let rows = living slots in
       let all = map (unloaded u) slots in

@@ -1,4 +1,4 @@
--- Rows by name: an index that rises by fingerprint, owner and name, and what it finds.
+-- Rows by name: an index sorted by fingerprint, owner and name, and what it finds.
 use Rattle.std.specs.Prelude.{◌≡◌, ◌≤◌, ◌<◌, ℕ, suc, List, [], ◌∷◌, map, length, take, drop, Option}
 use Rattle.std.specs.Prelude.{Some, None, Bool, true, false, ◌==◌, ◌&&◌, if◌then◌else◌, ◌*◌, get_or}
 use Rattle.std.specs.Prelude.{slice_set}
@@ -18,22 +18,23 @@ use Rattle.cm_index.specs.declared.index.IndexEntry.{IndexEntry}
 use Rattle.cm_index.specs.declared.slot.BookSlot.{BookSlot}
 use Rattle.cm_index.specs.Living.{living}
 
--- whose row it is: nobody's a loader's own, a loader's a class's
+-- the owner of a row: none for a loader, the loader for a class
 abbrev pub owner_of : {P : Type 0} → Row P → Option ℕ
 owner_of (Loader r) = None
 owner_of (Class r p) = Some r.loader
 
--- nobody stands before all loaders
+-- no owner comes before all loaders
 abbrev pub rank : Option ℕ → ℕ
 rank None = 0
 rank (Some u) = suc u
 
--- the name of the loader or of the class, where what is kept of a class says its name
+-- the name of the loader or of the class; `name_of` gives the name of the class of which something
+-- is kept
 abbrev pub name_in : {P : Type 0} → (P → List ℕ) → Row P → List ℕ
 name_in name_of (Loader r) = r.name
 name_in name_of (Class r p) = name_of p
 
--- the row is this owner's, and has this name
+-- the row belongs to this owner, and has this name
 abbrev pub is_named : {P : Type 0} → (P → List ℕ) → ℕ → List ℕ → Row P → Bool
 is_named name_of o x row = (rank (owner_of row) == o) && bytes_eq (name_in name_of row) x
 
@@ -48,15 +49,15 @@ kept_in None = None
 kept_in (Some (Loader r)) = None
 kept_in (Some (Class r p)) = Some p
 
--- what is kept of the first class of this name in the loader of this number, where what is kept of
--- a class says its name
+-- what is kept of the first class of this name in the loader of this number; `name_of` gives the
+-- name of the class of which something is kept
 abbrev pub class_of : {P : Type 0} → (P → List ℕ) → ℕ → List ℕ → List (Row P) → Option P
 class_of name_of u x [] = None
 class_of name_of u x (Loader r ∷ rows) = class_of name_of u x rows
 class_of name_of u x (Class r p ∷ rows) =
     if (r.loader == u) && bytes_eq (name_of p) x then Some p else class_of name_of u x rows
 
--- by which an index is sorted: the fingerprint, the owner, the name
+-- the key by which an index is sorted: the fingerprint, the owner, the name
 abbrev pub key : (ℕ → List ℕ → ℕ) → ℕ → List ℕ → List ℕ
 key mark o x = mark o x ∷ o ∷ x
 
@@ -71,15 +72,15 @@ abbrev pub keys_at : {P : Type 0} → (P → List ℕ) → List (BookSlot (Row P
     → List (List ℕ)
 keys_at name_of slots es = map (key_at name_of slots) es
 
--- each key is below those behind it
+-- each key is below those after it
 abbrev pub Rise : List (List ℕ) → Type 0
 Rise keys = Pairwise (λ a b. slice_cmp nat_cmp a b ≡ Less) keys
 
--- the entry leads to a row that lives
+-- the entry leads to a live row
 abbrev pub leads_to_life : {P : Type 0} → List (BookSlot (Row P)) → IndexEntry → Bool
 leads_to_life slots e = option_map_or (λ s. s.live) (slice_get slots e.at) false
 
--- the entry leads to a row, and where that lives, it is the first that does of its owner and name
+-- the entry leads to a row, and if that lives, it is the first live row of its owner and name
 pub record IsEntry {P : Type 0} (mark : ℕ → List ℕ → ℕ) (name_of : P → List ℕ)
     (slots : List (BookSlot (Row P))) (e : IndexEntry) : Type 0 where
   pub slot : BookSlot (Row P)
@@ -89,23 +90,23 @@ pub record IsEntry {P : Type 0} (mark : ℕ → List ℕ → ℕ) (name_of : P �
       → find (is_named name_of (rank (owner_of slot.item)) (name_in name_of slot.item))
       (living slots) ≡ Some slot.item
 
--- an entry of this key leads to a row that lives
-pub record Leads {P : Type 0} (name_of : P → List ℕ) (slots : List (BookSlot (Row P)))
+-- an entry of this key leads to a live row
+pub record ReachesRow {P : Type 0} (name_of : P → List ℕ) (slots : List (BookSlot (Row P)))
     (es : List IndexEntry) (k : List ℕ) : Type 0 where
   pub entry : IndexEntry
   pub among : Among entry es
   pub key_is : key_at name_of slots entry ≡ k
   pub lives : leads_to_life slots entry ≡ true
 
--- the index leads to the first of the living rows of each owner and name; an entry of an owner and
--- name that no living row has may be left, one at most
+-- the index leads to the first live row of each owner and name; at most one entry may be left for
+-- an owner and name that no live row has
 pub record IsIndex {P : Type 0} (mark : ℕ → List ℕ → ℕ) (name_of : P → List ℕ)
     (slots : List (BookSlot (Row P))) (es : List IndexEntry) : Type 0 where
   pub each : AllByRecursion (IsEntry mark name_of slots) es
   pub rises : Rise (keys_at name_of slots es)
   pub complete : (o : ℕ) (x : List ℕ) (row : Row P)
       → find (is_named name_of o x) (living slots) ≡ Some row
-      → Leads name_of slots es (key mark o x)
+      → ReachesRow name_of slots es (key mark o x)
   pub few : length es ≤ length slots
 
 -- the entry at this place has this key
@@ -114,11 +115,11 @@ pub record IsKeyAt {P : Type 0} (name_of : P → List ℕ) (slots : List (BookSl
   pub within : place < length es
   pub key_is : HoldsAt (λ e. slice_cmp nat_cmp (key_at name_of slots e) k ≡ Equal) es place
 
--- what stands at this place lives
+-- the item at this place lives
 pub record LivesAt {X : Type 0} (slots : List (BookSlot X)) (at : ℕ) : Type 0 where
   pub is : (d : BookSlot X) → (get_or slots at d).live ≡ true
 
--- the entry is put in the place of one that leads to a row that lives no more
+-- the entry is put in the place of one that leads to a dead row
 abbrev pub renewed : {P : Type 0} → List (BookSlot (Row P)) → List IndexEntry → ℕ → IndexEntry
     → List IndexEntry
 renewed slots es place e =
@@ -132,12 +133,12 @@ abbrev pub Above : List ℕ → List ℕ → Type 0
 Above k a = slice_cmp nat_cmp a k ≡ Greater
 
 -- the keys before this place are below this one, and the others above it
-pub record Parts (keys : List (List ℕ)) (place : ℕ) (k : List ℕ) : Type 0 where
+pub record SplitsKeys (keys : List (List ℕ)) (place : ℕ) (k : List ℕ) : Type 0 where
   pub within : place ≤ length keys
   pub below : AllByRecursion (Below k) (take place keys)
   pub above : AllByRecursion (Above k) (drop place keys)
 
--- no two live loaders have one name
+-- no two live loaders have the same name
 pub record AreUnique {P : Type 0} (rows : List (Row P)) : Type 0 where
   pub names : (r s : LoaderRow) → Among (Loader r) rows → Among (Loader s) rows → r.name ≡ s.name
       → r.number ≡ s.number

@@ -1,4 +1,4 @@
--- What is looked for in an index, as its key.
+-- What is searched for in an index, as its key.
 use Rattle.std.specs.Prelude.{◌≡◌, ℕ, List, ◌∷◌}
 use Rattle.cm_index.specs.declared.sought.Name.{Name}
 use Rattle.cm_index.specs.declared.sought.Name.TheVariants.{Bytes, Of}

@@ -14,13 +14,13 @@ use cm_layout::Row;
 use std::alloc::{AllocError, Global};
 use std::marker::Model;
 
-/// For how many entries a block has room.
+/// How many entries a block has room for.
 const BLOCK: usize = 1024;
 
 /// How many entries a full block keeps when it is halved.
 pub const HALF: usize = 512;
 
-/// Some entries of an index, one after another. Its memory is taken when it is made.
+/// Some entries of an index, one after another. Its memory is allocated when it is made.
 #[derive(Drop)]
 pub struct IndexBlock {
     entries: Vec<IndexEntry>,
@@ -68,7 +68,7 @@ impl IndexBlock {
         self.entries.is_empty()
     }
 
-    /// Whether there is no room for an entry more.
+    /// Whether there is no room for another entry.
     pub fn is_full(&self) -> bool
         ensures full { result ≡ (length self.now == block_size) }
         ensures most { length self.now ≤ block_size }
@@ -93,7 +93,7 @@ impl IndexBlock {
         self.entries.insert(place, entry).unwrap();
     }
 
-    /// Gives the upper half of a full block to one with no entries.
+    /// Moves the upper half of a full block to an empty one.
     pub fn halve(&mut self, upper: &mut IndexBlock)
         requires full { length self.old ≡ block_size }
         requires empty { length upper.old ≡ 0 }
@@ -107,7 +107,7 @@ impl IndexBlock {
         self.entries.truncate(HALF);
     }
 
-    /// Takes the last entries of the block before it, as many as it has room for.
+    /// Takes the last entries of the block before, as many as there is room for.
     pub fn fill(&mut self, before: &mut IndexBlock)
         ensures both { before.new ++ self.new ≡ before.old ++ self.old }
         ensures filled { IsFilled before.new self.new }
@@ -121,7 +121,7 @@ impl IndexBlock {
         before.entries.truncate(kept);
     }
 
-    /// Keeps the entries that lead to rows that live, and lets each lead to its row's new place.
+    /// Keeps the entries that lead to live rows, and redirects each to its row's new place.
     pub fn sweep<P>(&mut self, slots: &[BookSlot<Row<P>>], places: &[u32])
         requires { AllByRecursion (λ e. e.at < length places.now) self.old }
         ensures { self.new ≡ swept_entries slots.now places.now self.old }

@@ -1,18 +1,18 @@
-//! The blocks of an index. Only `empty_blocks` takes memory: entries come and go without.
+//! The blocks of an index. Only `empty_blocks` allocates: entries come and go without.
 
 ghost use Rattle.std.specs.Prelude.{◌≡◌, ◌+◌, ◌-◌, ◌*◌, ◌<◌, ◌≤◌, length, vec_capacity, vec_len};
 ghost use Rattle.std.specs.Prelude.{[], get_or};
 ghost use Rattle.std.specs.Prelude.{IfOk};
 ghost use Rattle.std.specs.List.{insert, AllByRecursion};
 ghost use Rattle.cm_index.specs.Blocks.{block_size, half_size, joined, place_of, room_of};
-ghost use Rattle.cm_index.specs.Blocks.{with_entry, halved, AreBlocks, IsTaken, IsBetween};
+ghost use Rattle.cm_index.specs.Blocks.{with_entry, halved, AreBlocks, IsTaken, BlockIsBetween};
 
 use crate::block::{HALF, IndexBlock};
 use crate::index::IndexEntry;
 use crate::search::BlockPlace;
 use std::alloc::{AllocError, Global};
 
-/// How many blocks there are to be for so many entries, if each is half full.
+/// How many blocks are needed for `count` entries, if each is half full.
 pub fn blocks_for(count: usize) -> usize
     ensures some { 0 < result }
     ensures room { count ≤ half_size * result }
@@ -61,7 +61,7 @@ pub fn put_entry(
 )
     requires blocks { AreBlocks 0 blocks.old.items spare.old.items (vec_capacity blocks.old)
         (vec_capacity spare.old) }
-    requires between { IsBetween blocks.old.items spot }
+    requires between { BlockIsBetween blocks.old.items spot }
     requires room { length (joined blocks.old.items) < room_of blocks.old.items spare.old.items }
     ensures items { joined blocks.new.items
         ≡ insert (joined blocks.old.items) (place_of blocks.old.items spot) entry }
@@ -74,15 +74,15 @@ pub fn put_entry(
     blocks[spot.block].insert(spot.place, entry);
 }
 
-/// Sees to it that the block of a spot has room for an entry more, and says where the spot is then.
+/// Makes room for another entry in the block of a spot, and returns where the spot is then.
 fn open(blocks: &mut Vec<IndexBlock>, spare: &mut Vec<IndexBlock>, spot: BlockPlace) -> BlockPlace
     requires blocks { AreBlocks 0 blocks.old.items spare.old.items (vec_capacity blocks.old)
         (vec_capacity spare.old) }
-    requires between { IsBetween blocks.old.items spot }
+    requires between { BlockIsBetween blocks.old.items spot }
     requires room { length (joined blocks.old.items) < room_of blocks.old.items spare.old.items }
     ensures items { joined blocks.new.items ≡ joined blocks.old.items }
     ensures place { place_of blocks.new.items result ≡ place_of blocks.old.items spot }
-    ensures between { IsBetween blocks.new.items result }
+    ensures between { BlockIsBetween blocks.new.items result }
     ensures open { length (get_or blocks.new.items result.block []) < block_size }
     ensures room { room_of blocks.new.items spare.new.items
         ≡ room_of blocks.old.items spare.old.items }
@@ -102,7 +102,7 @@ fn open(blocks: &mut Vec<IndexBlock>, spare: &mut Vec<IndexBlock>, spot: BlockPl
     }
 }
 
-/// Gives the upper half of a full block to a spare one, which is put behind it.
+/// Moves the upper half of a full block to a spare one, which is inserted after it.
 fn split(blocks: &mut Vec<IndexBlock>, spare: &mut Vec<IndexBlock>, at: usize)
     requires blocks { AreBlocks 0 blocks.old.items spare.old.items (vec_capacity blocks.old)
         (vec_capacity spare.old) }
@@ -120,8 +120,8 @@ fn split(blocks: &mut Vec<IndexBlock>, spare: &mut Vec<IndexBlock>, at: usize)
     blocks.insert(at + 1, upper).unwrap();
 }
 
-/// Moves entries to the blocks behind theirs, so that all blocks but the first are at least half
-/// full, and those with no entries are to spare.
+/// Moves entries to the next block, so that all blocks but the first are at least half full. Blocks
+/// without entries become spare.
 pub fn pack(blocks: &mut Vec<IndexBlock>, spare: &mut Vec<IndexBlock>)
     requires { AreBlocks (vec_len blocks.old - 1) blocks.old.items spare.old.items
         (vec_capacity blocks.old) (vec_capacity spare.old) }
@@ -138,7 +138,7 @@ pub fn pack(blocks: &mut Vec<IndexBlock>, spare: &mut Vec<IndexBlock>)
     }
 }
 
-/// Moves entries of one block to the one behind it, as many as that has room for.
+/// Moves entries of one block to the next one, as many as that has room for.
 fn pack_one(blocks: &mut Vec<IndexBlock>, spare: &mut Vec<IndexBlock>, at: usize)
     requires { AreBlocks (at + 1) blocks.old.items spare.old.items (vec_capacity blocks.old)
         (vec_capacity spare.old) }

@@ -1,4 +1,4 @@
-//! Rows by name: an index that rises by fingerprint, owner and name.
+//! Rows by name: an index sorted by fingerprint, owner and name.
 
 ghost use Rattle.std.specs.Prelude.{◌≡◌, ◌+◌, ◌^◌, ◌<◌, ◌≤◌, IfOk, take, length, vec_len};
 ghost use Rattle.std.specs.Prelude.{vec_capacity};
@@ -21,18 +21,18 @@ use cm_layout::Row;
 use std::alloc::{AllocError, Global};
 use std::marker::Model;
 
-/// Where a row stands, and the fingerprint of its owner and its name.
+/// Where a row is, and the fingerprint of its owner and its name.
 #[derive(Clone, Copy, Debug)]
 pub struct IndexEntry {
     pub fingerprint: u32,
     pub at: u32,
 }
 
-/// The entries of an index in order. Contracts see them as one list, and how many there is room
-/// for; the memory for these is taken when the index is made.
+/// The entries of an index in order. Contracts see them as one list, together with how many there
+/// is room for. The memory for these is allocated when the index is made.
 ///
-/// They stand in blocks, so that to put one among the others moves at most a block's. A block that
-/// is full gives half of its entries to one that was to spare, which is put behind it.
+/// The entries are in blocks, so that inserting one moves at most a block's entries. A full block
+/// gives half of its entries to a spare one, which is inserted after it.
 #[derive(Drop)]
 pub struct Index {
     /// The blocks in order, of which all but the first are at least half full.
@@ -57,7 +57,7 @@ impl Model for Index {
 }
 
 impl Index {
-    /// An index with no entries, and with room for so many.
+    /// An index with no entries, and with room for `count` of them.
     pub fn with_room(alloc: Global, count: usize) -> Result<Index, AllocError>
         ensures empty { IfOk result (λ index. index.items ≡ []) }
         ensures room { IfOk result (λ index. count ≤ index.room) }
@@ -97,8 +97,8 @@ pub fn find_row<'a, P: Kept>(
     if slot.live { Some(&slot.item) } else { None }
 }
 
-/// Puts the next row, which lives, into an index of those before it, where there is room for it. An
-/// entry that leads to a dead row of its owner and name leads to it from then on.
+/// Adds the next row, which lives, to an index of those before it, if there is room for it. An
+/// entry that leads to a dead row of its owner and name leads to the new row from then on.
 pub fn add_row<P: Kept>(index: &mut Index, slots: &[BookSlot<Row<P>>], at: usize)
     requires index { IsIndex P.mark P.name (take at slots.now) index.old.items }
     requires within { at < length slots.now }
@@ -165,7 +165,7 @@ fn renew<P>(
     }
 }
 
-/// Puts a row behind the others and into their index, where there is room for it.
+/// Appends a row to the others and adds it to their index, if there is room for it.
 pub fn push_row<P: Kept>(slots: &mut Vec<BookSlot<Row<P>>>, index: &mut Index, row: Row<P>)
     requires index { IsIndex P.mark P.name slots.old.items index.old.items }
     requires fits { vec_len slots.old < 2 ^ 32 }
@@ -187,7 +187,7 @@ pub fn push_row<P: Kept>(slots: &mut Vec<BookSlot<Row<P>>>, index: &mut Index, r
     add_row(index, slots, at);
 }
 
-/// Makes an index of rows that all live, where there is room for it.
+/// Makes an index of rows that all live, if there is room for it.
 pub fn index_rows<P: Kept>(index: &mut Index, slots: &[BookSlot<Row<P>>])
     requires live { AllByRecursion (λ s. s.live ≡ true) slots.now }
     requires fits { length slots.now ≤ 2 ^ 32 }
@@ -201,7 +201,8 @@ pub fn index_rows<P: Kept>(index: &mut Index, slots: &[BookSlot<Row<P>>])
     }
 }
 
-/// Makes the index of all places that of the places of what lives alone. `places` is overwritten.
+/// Turns the index of all places into that of the places of live rows alone. `places` is
+/// overwritten.
 pub fn sweep_index<P: Kept>(index: &mut Index, places: &mut Vec<u32>, slots: &[BookSlot<Row<P>>])
     requires index { IsIndex P.mark P.name slots.now index.old.items }
     requires fits { length slots.now ≤ 2 ^ 31 }

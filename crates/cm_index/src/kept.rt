@@ -9,12 +9,12 @@ ghost use Rattle.cm_index.specs.Marks.{mark_of};
 use cm_record::fingerprint;
 use std::cmp::Ordering;
 
-/// What a book keeps of a class, which tells the class's name.
+/// What live rows keep of a class; it gives the class's name.
 pub trait Kept: Drop {
     /// The name of the class.
     ghost name: { Self → List ℕ };
 
-    /// The fingerprint of a name and of the loader that has it, or of a loader's own name.
+    /// The fingerprint of a name and of the loader that has it; or of a loader's own name.
     ghost mark: { ℕ → List ℕ → ℕ };
 
     /// The order of the names of two classes, by their bytes.
@@ -34,7 +34,7 @@ pub trait Kept: Drop {
         ensures { result ≡ mark (rank owner) bytes.now };
 }
 
-/// What stands for an owner in fingerprints.
+/// The number that fingerprints use for an owner.
 pub(crate) fn seed_of(owner: Option<u64>) -> u64
     ensures { result ≡ rank owner % 2 ^ 64 }
 {
@@ -44,7 +44,7 @@ pub(crate) fn seed_of(owner: Option<u64>) -> u64
     }
 }
 
-/// The fingerprint of a name and of whose it is.
+/// The fingerprint of a name and of its owner.
 #[tactic(auto, unfolding(crate::specs::Marks::mark_of))]
 pub fn mark_of(owner: Option<u64>, name: &[u8]) -> u32
     ensures { result ≡ mark_of (rank owner) name.now }

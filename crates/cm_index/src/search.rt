@@ -1,13 +1,13 @@
-//! Where an owner's name stands in an index.
+//! Where the name of an owner is in an index.
 
 ghost use Rattle.std.specs.Prelude.{◌≡◌, ◌+◌, ◌<◌, ◌≤◌, IfOk, IfErr, take, drop, length, []};
 ghost use Rattle.std.specs.List.{AllByRecursion};
 ghost use Rattle.std.specs.Ordering.{nat_cmp};
 ghost use Rattle.std.specs.Cmp.Lexicographic.{slice_cmp};
 ghost use Rattle.cm_index.specs.Index.{owner_of as owner_in, rank, name_in, key_at, keys_at};
-ghost use Rattle.cm_index.specs.Index.{IsIndex, IsKeyAt, Parts, Rise, Below, Above};
+ghost use Rattle.cm_index.specs.Index.{IsIndex, IsKeyAt, SplitsKeys, Rise, Below, Above};
 ghost use Rattle.cm_index.specs.Sought.{name_sought, key_sought};
-ghost use Rattle.cm_index.specs.Blocks.{half_size, joined, place_of, IsTaken, IsBetween};
+ghost use Rattle.cm_index.specs.Blocks.{half_size, joined, place_of, IsTaken, BlockIsBetween};
 
 use crate::block::IndexBlock;
 use crate::index::IndexEntry;
@@ -24,7 +24,7 @@ pub struct BlockPlace {
     pub place: usize,
 }
 
-/// Whose row it is: a class's loader.
+/// The owner of a row: a class's loader.
 fn owner_of<P>(row: &Row<P>) -> Option<u64>
     ensures { result ≡ owner_in row.now }
 {
@@ -34,7 +34,7 @@ fn owner_of<P>(row: &Row<P>) -> Option<u64>
     }
 }
 
-/// The order of two owners: nobody stands before all loaders.
+/// The order of two owners: no owner comes before all loaders.
 fn cmp_owners(one: Option<u64>, other: Option<u64>) -> Ordering
     ensures { result ≡ nat_cmp (rank one) (rank other) }
 {
@@ -58,7 +58,7 @@ fn cmp_names<P: Kept>(row: &Row<P>, name: &Name<P>) -> Ordering
     }
 }
 
-/// The order of the key of an entry and of what is looked for; a row is looked at only where the
+/// The order of the key of an entry and of what is searched for; the row is read only if the
 /// fingerprints are the same.
 fn cmp_keys<P: Kept>(entry: &IndexEntry, slots: &[BookSlot<Row<P>>], sought: &Sought<P>) -> Ordering
     requires { entry.now.at < length slots.now }
@@ -76,7 +76,7 @@ fn cmp_keys<P: Kept>(entry: &IndexEntry, slots: &[BookSlot<Row<P>>], sought: &So
     cmp_names(row, &sought.name)
 }
 
-/// Where the entry stands that has this key, or would stand, among those of one block.
+/// Where the entry with this key is, or would be, among those of one block.
 fn place_in<P: Kept>(
     index: &[IndexEntry],
     slots: &[BookSlot<Row<P>>],
@@ -87,7 +87,7 @@ fn place_in<P: Kept>(
     ensures found { IfOk result
         (λ i. IsKeyAt P.name slots.now index.now i (key_sought P.name sought.now)) }
     ensures absent { IfErr result
-        (λ i. Parts (keys_at P.name slots.now index.now) i (key_sought P.name sought.now)) }
+        (λ i. SplitsKeys (keys_at P.name slots.now index.now) i (key_sought P.name sought.now)) }
 {
     let mut low = 0;
     let mut high = index.len();
@@ -102,8 +102,8 @@ fn place_in<P: Kept>(
     Err(low)
 }
 
-/// The block in which the entry of this key stands, or would stand: the last whose first key isn't
-/// above it, or the first of all. So of each other block but this one key is looked at.
+/// The block that the entry of this key is in, or would be in: the last whose first key isn't above
+/// it, or the first of all. So only one key of each other block is compared.
 fn block_of<P: Kept>(blocks: &[IndexBlock], slots: &[BookSlot<Row<P>>], sought: &Sought<P>) -> usize
     requires index { IsIndex P.mark P.name slots.now (joined blocks.now) }
     requires some { 0 < length blocks.now }
@@ -127,7 +127,7 @@ fn block_of<P: Kept>(blocks: &[IndexBlock], slots: &[BookSlot<Row<P>>], sought: 
     at
 }
 
-/// Where the entry stands that has this key, or would stand.
+/// Where the entry with this key is, or would be.
 pub fn search<P: Kept>(
     blocks: &[IndexBlock],
     slots: &[BookSlot<Row<P>>],
@@ -139,8 +139,8 @@ pub fn search<P: Kept>(
     ensures taken { IfOk result (λ s. IsTaken blocks.now s) }
     ensures found { IfOk result (λ s. IsKeyAt P.name slots.now (joined blocks.now)
         (place_of blocks.now s) (key_sought P.name sought.now)) }
-    ensures between { IfErr result (λ s. IsBetween blocks.now s) }
-    ensures absent { IfErr result (λ s. Parts (keys_at P.name slots.now (joined blocks.now))
+    ensures between { IfErr result (λ s. BlockIsBetween blocks.now s) }
+    ensures absent { IfErr result (λ s. SplitsKeys (keys_at P.name slots.now (joined blocks.now))
         (place_of blocks.now s) (key_sought P.name sought.now)) }
 {
     let block = block_of(blocks, slots, sought);

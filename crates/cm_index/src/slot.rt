@@ -1,7 +1,7 @@
-//! Places of what lives and of what lives no more.
+//! Places of live and dead items.
 
-/// What stands at a place, and whether it lives. What lives no more keeps its place until all such
-/// are swept out at once.
+/// What is at a place, and whether it lives. A dead item keeps its place until all such are swept
+/// out at once.
 #[derive(Debug, Drop)]
 pub struct BookSlot<T> {
     pub item: T,

@@ -1,4 +1,4 @@
-//! What is looked for in an index.
+//! What is searched for in an index.
 
 ghost use Rattle.std.specs.Prelude.{◌≡◌, Some};
 ghost use Rattle.cm_index.specs.Index.{owner_of, rank, name_in, key};
@@ -7,7 +7,7 @@ ghost use Rattle.cm_index.specs.Sought.{name_sought, key_sought, IsKey};
 use crate::kept::Kept;
 use cm_layout::Row;
 
-/// A name: in bytes, or as what is kept of a class tells it.
+/// A name: in bytes, or as that of the class of which something is kept.
 #[derive(Drop)]
 pub enum Name<'a, P> {
     Bytes(&'a [u8]),
@@ -23,7 +23,7 @@ pub struct Sought<'a, P> {
 }
 
 impl<'a, P: Kept> Sought<'a, P> {
-    /// A name of this owner's.
+    /// A name of this owner.
     pub fn of_name(owner: Option<u64>, name: &'a [u8]) -> Sought<'a, P>
         ensures key { IsKey P.mark P.name result }
         ensures owner { result.owner ≡ owner }
@@ -36,7 +36,7 @@ impl<'a, P: Kept> Sought<'a, P> {
         }
     }
 
-    /// The name of the class that this is kept of, as one of the loader's.
+    /// The name of the class of which this is kept, as a name in the loader.
     pub fn class(loader: u64, class: &'a P) -> Sought<'a, P>
         ensures key { IsKey P.mark P.name result }
         ensures owner { result.owner ≡ Some loader }
@@ -49,7 +49,7 @@ impl<'a, P: Kept> Sought<'a, P> {
         }
     }
 
-    /// What a row has.
+    /// The owner and the name of a row.
     pub fn row(row: &'a Row<P>) -> Sought<'a, P>
         ensures { key_sought P.name result
             ≡ key P.mark (rank (owner_of row.now)) (name_in P.name row.now) }

@@ -1,4 +1,4 @@
-//! What lives alone: its places, and the entries that lead to it.
+//! Sweeping: the places of live items, and the entries that lead to them.
 
 ghost use Rattle.std.specs.Prelude.{◌≡◌, ◌^◌, ◌<◌, ◌≤◌, length, map, filter, vec_capacity};
 ghost use Rattle.std.specs.List.{AllByRecursion};
@@ -11,7 +11,7 @@ use crate::index::IndexEntry;
 use crate::slot::BookSlot;
 use cm_layout::Row;
 
-/// Where each stands once the places are swept.
+/// Where each item is once the places are swept.
 pub fn count_places<T>(places: &mut Vec<u32>, slots: &[BookSlot<T>])
     requires fits { length slots.now ≤ 2 ^ 31 }
     requires room { length slots.now ≤ vec_capacity places.old }
@@ -28,7 +28,7 @@ pub fn count_places<T>(places: &mut Vec<u32>, slots: &[BookSlot<T>])
     }
 }
 
-/// Keeps the entries that lead to rows that live, and lets each lead to its row's new place.
+/// Keeps the entries that lead to live rows, and redirects each to its row's new place.
 pub fn sweep_blocks<P>(blocks: &mut Vec<IndexBlock>, places: &[u32], slots: &[BookSlot<Row<P>>])
     requires { AllByRecursion (λ e. e.at < length places.now) (joined blocks.old.items) }
     ensures blocks { blocks.new.items ≡ map (swept_entries slots.now places.now) blocks.old.items }
@@ -39,8 +39,8 @@ pub fn sweep_blocks<P>(blocks: &mut Vec<IndexBlock>, places: &[u32], slots: &[Bo
     }
 }
 
-/// Keeps those entries of one block that lead to rows that live, and lets each lead to its row's
-/// new place.
+/// Keeps those entries of one block that lead to live rows, and redirects each to its row's new
+/// place.
 pub fn sweep_entries<P>(entries: &mut Vec<IndexEntry>, slots: &[BookSlot<Row<P>>], places: &[u32])
     requires { AllByRecursion (λ e. e.at < length places.now) entries.old.items }
     ensures entries { entries.new.items ≡ swept_entries slots.now places.now entries.old.items }
@@ -50,7 +50,7 @@ pub fn sweep_entries<P>(entries: &mut Vec<IndexEntry>, slots: &[BookSlot<Row<P>>
     move_up(entries, places);
 }
 
-/// Keeps the entries that lead to rows that live.
+/// Keeps the entries that lead to live rows.
 fn keep_living<P>(index: &mut Vec<IndexEntry>, slots: &[BookSlot<Row<P>>])
     ensures index { index.new.items ≡ filter (leads_to_life slots.now) index.old.items }
     ensures capacity { vec_capacity index.new ≡ vec_capacity index.old }
@@ -67,7 +67,7 @@ fn leads_to_life<P>(entry: &IndexEntry, slots: &[BookSlot<Row<P>>]) -> bool
     }
 }
 
-/// Lets each entry lead to its row's new place.
+/// Redirects each entry to its row's new place.
 fn move_up(index: &mut Vec<IndexEntry>, places: &[u32])
     requires { AllByRecursion (λ e. e.at < length places.now) index.old.items }
     ensures index { index.new.items ≡ map (shifted places.now) index.old.items }

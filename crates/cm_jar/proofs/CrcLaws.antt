@@ -1,4 +1,4 @@
--- On `shifts`: shifting is linear, so a byte's eight shifts are one look into a table.
+-- On `shifts`: shifting is linear, so the eight shifts of a byte are one table lookup.
 use Rattle.std.proofs.Common.{◌≡◌, ℕ, zero, suc, ◌+◌, ◌*◌, ◌/◌, ◌%◌, ◌^◌, ◌<◌, ◌≤◌, refl, sym}
 use Rattle.std.proofs.Common.{◌∙◌, ap, arith, get_or, mul_assoc, add-zero, add-one}
 use Rattle.std.specs.Prelude.{bit_xor, List, [], ◌∷◌, drop, length, Bool, true, ◌==◌, ◌&&◌, false}
@@ -11,7 +11,7 @@ use Rattle.std.proofs.lemmas.Bool.{eqb-true}
 use Rattle.std.proofs.Math.Seq.{drop-cons}
 use Rattle.cm_jar.specs.Crc.{shift, shifts, register_after, are_shifts_from, polynomial}
 
--- what a shift adds to the half of the register, by the bit that left it
+-- what a shift adds to the half of the register, given the bit that left it
 abbrev added : ℕ → ℕ → ℕ → ℕ
 added p bit half = if bit == 0 then half else bit_xor half p
 
@@ -66,7 +66,7 @@ halves x =
     ∙ ap (λ (a : ℕ). a * 2 ^ 8 + bit_xor (x % 256) 0) (xor_zero_l (x / 256))
     ∙ ap (λ (a : ℕ). x / 256 * 2 ^ 8 + a) (xor_zero_r (x % 256)) ∙ whole
 
--- the register's low byte and the rest are shifted apart
+-- the register's low byte and the other bytes are shifted separately
 pub shifts-8 : (x : ℕ) → shifts 8 x ≡ bit_xor (shifts 8 (x % 256)) (x / 256)
 shifts-8 x =
     ap (shifts 8) (sym (halves x)) ∙ shifts-xor 8 (x % 256) (x / 256 * 256)

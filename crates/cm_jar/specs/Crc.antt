@@ -1,5 +1,5 @@
--- CRC-32, the check value of an entry (APPNOTE 4.4.7): division by a polynomial of degree 32, by a
--- shift register that takes the lowest bit of each byte first.
+-- CRC-32, the check value of an entry (APPNOTE 4.4.7): division by a polynomial of degree 32,
+-- computed with a shift register that takes the lowest bit of each byte first.
 use Rattle.std.specs.Prelude.{ℕ, zero, suc, ◌/◌, ◌%◌, List, [], ◌∷◌, bit_xor, ◌==◌, if◌then◌else◌}
 use Rattle.std.specs.Prelude.{Bool, true, ◌&&◌}
 
@@ -25,7 +25,7 @@ register_after (b ∷ bs) r = register_after bs (shifts 8 (bit_xor r b))
 abbrev pub crc32 : List ℕ → ℕ
 crc32 bytes = bit_xor (register_after bytes 0xFFFF_FFFF) 0xFFFF_FFFF
 
--- whether a table has, from a byte on, what eight shifts make of each byte
+-- whether a table has, from a byte on, the result of eight shifts for each byte
 unfoldable pub are_shifts_from : ℕ → List ℕ → Bool
 are_shifts_from byte [] = true
 are_shifts_from byte (x ∷ xs) = (x == shifts 8 byte) && are_shifts_from (suc byte) xs

@@ -1,8 +1,8 @@
-//! CRC-32 of bytes, by a table of what each byte does to the register (APPNOTE 4.4.7).
+//! CRC-32 of bytes, by a table of the effect of each byte on the register (APPNOTE 4.4.7).
 ghost use Rattle.std.specs.Prelude.{◌≡◌, ◌<◌, bit_xor, true};
 ghost use Rattle.cm_jar.specs.Crc.{shifts, crc32, are_shifts_from};
 
-/// What eight shifts make of each byte.
+/// The result of eight shifts, for each byte.
 const TABLE: [u32; 256] = [
     0x00000000, 0x77073096, 0xee0e612c, 0x990951ba, 0x076dc419, 0x706af48f, 0xe963a535, 0x9e6495a3,
     0x0edb8832, 0x79dcb8a4, 0xe0d5e91e, 0x97d2d988, 0x09b64c2b, 0x7eb17cbd, 0xe7b82d07, 0x90bf1d91,
@@ -38,7 +38,7 @@ const TABLE: [u32; 256] = [
     0xb3667a2e, 0xc4614ab8, 0x5d681b02, 0x2a6f2b94, 0xb40bbe37, 0xc30c8ea1, 0x5a05df1b, 0x2d02ef8d,
 ];
 
-/// What a table of shifts has at a byte.
+/// The entry of a table of shifts at a byte.
 fn at_byte(table: &[u32; 256], byte: u8) -> u32
     requires { are_shifts_from 0 table.now ≡ true }
     ensures { result ≡ shifts 8 byte }
@@ -61,7 +61,7 @@ fn register_with(register: u32, byte: u8) -> u32
     shifted((mixed % 256) as u8) ^ (mixed / 256)
 }
 
-/// The check value of bytes, as a jar's directory declares one for each entry.
+/// The check value of bytes, which a jar's directory declares for each entry.
 pub fn crc32(bytes: &[u8]) -> u32
     ensures { result ≡ crc32 bytes.now }
 {

@@ -5,12 +5,12 @@ use cm_jar::{EntryFault, Jar, JarFault};
 use std::alloc::{AllocError, Global};
 use std::test::Fail;
 
-/// Whether bytes are a jar that can be read.
+/// Whether bytes are a readable jar.
 fn is_jar(alloc: Global, bytes: &[u8]) -> bool {
     Jar::read(alloc, bytes).is_ok()
 }
 
-/// The comment of an end record ends with the file, so no part of a jar is one.
+/// The comment of an end record ends with the file, so no part of a jar is a jar.
 #[test]
 fn cut_jars_are_refused(rt: HostRuntime) -> Result<(), Fail> {
     let alloc = rt.alloc();
@@ -22,7 +22,7 @@ fn cut_jars_are_refused(rt: HostRuntime) -> Result<(), Fail> {
     Ok(())
 }
 
-/// The jar with bytes put in place of those that are there.
+/// The jar with some of its bytes replaced.
 fn changed(alloc: Global, place: usize, change: &[u8]) -> Result<Vec<u8>, AllocError> {
     let mut bytes = SMALL.to_vec(alloc)?;
     for (byte, new) in bytes.iter_mut().skip(place).zip(change) {
@@ -76,7 +76,7 @@ fn spoilt_jars_are_refused(rt: HostRuntime) -> Result<(), Fail> {
     Ok(())
 }
 
-/// Whether each content that a jar gives is one of the three.
+/// Whether each content that a jar yields is one of the three.
 fn has_no_other_content(alloc: Global, bytes: &[u8]) -> bool {
     let Ok(jar) = Jar::read(alloc, bytes) else {
         return true;

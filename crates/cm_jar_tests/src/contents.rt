@@ -1,11 +1,11 @@
-//! A jar in full, and CRC-32.
+//! A complete jar, and CRC-32.
 
 use crate::samples::{LONG, MANIFEST, SHORT, SMALL};
 use cm_jar::{Entry, EntryFault, Jar, JarFault, crc32};
 use std::alloc::Global;
 use std::test::Fail;
 
-/// The check value of CRC-32, and what Python's zlib gives for some others.
+/// The check value of CRC-32, and what Python's zlib computes for some others.
 const CHECKS: [(&[u8], u32); 4] = [
     (b"123456789", 0xcbf4_3926),
     (b"", 0),
@@ -28,7 +28,7 @@ fn has_content(alloc: Global, entry: &Entry, name: &[u8], content: &[u8]) -> boo
     }
 }
 
-/// Whether the entries of the small jar have their names and contents, in its order.
+/// Whether the entries of the small jar have their names and contents, in order.
 fn are_right(alloc: Global) -> Result<bool, JarFault> {
     let wanted: [(&[u8], &[u8]); 3] = [
         (b"META-INF/MANIFEST.MF", MANIFEST),
@@ -49,7 +49,7 @@ fn a_jar_is_read_in_full(rt: HostRuntime) -> Result<(), Fail> {
     Ok(())
 }
 
-/// The length of the last entry's content. It is asked for again if an allocation failed.
+/// The length of the last entry's content. Tries again if an allocation failed.
 fn last_size(alloc: Global) -> Result<usize, EntryFault> {
     let jar = match Jar::read(alloc, SMALL) {
         Err(JarFault::NoMemory) => Jar::read(alloc, SMALL),
@@ -68,7 +68,7 @@ fn last_size(alloc: Global) -> Result<usize, EntryFault> {
     Ok(content?.len())
 }
 
-/// Under `tests/memory.sh` each allocation is refused in turn.
+/// `tests/memory.sh` makes each allocation fail in turn.
 #[test]
 fn a_jar_is_read_after_a_refusal(rt: HostRuntime) -> Result<(), Fail> {
     assert_eq!(rt; last_size(rt.alloc())?, LONG.len());

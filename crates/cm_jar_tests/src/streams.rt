@@ -43,7 +43,7 @@ fn faulty_streams_are_refused(rt: HostRuntime) {
     }
 }
 
-/// A stream that is cut anywhere is refused.
+/// A stream that is cut anywhere is rejected.
 #[test]
 fn cut_streams_are_refused(rt: HostRuntime) -> Result<(), Fail> {
     let alloc = rt.alloc();

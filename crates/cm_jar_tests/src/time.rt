@@ -7,7 +7,7 @@ use cm_jar::{EntryFault, InflateFault, Jar};
 use std::alloc::{AllocError, Global};
 use std::test::Fail;
 
-/// A stream of this many empty blocks, each of these bytes, and after them the last.
+/// A stream of this many empty blocks, each of these bytes, followed by the last one.
 fn blocks(alloc: Global, block: &[u8], count: u32, last: &[u8]) -> Result<Vec<u8>, AllocError> {
     let mut stream = Vec::new(alloc);
     for _ in 0..count {
@@ -37,7 +37,7 @@ fn many_empty_blocks(rt: HostRuntime) {
     assert_eq!(rt; size_of_blocks(alloc, &[2, 8, 32, 128, 0], &STORED), Ok(0));
 }
 
-/// A stream that puts out a thousand times its length ends where it passes what is declared.
+/// A stream that produces a thousand times its length ends where it exceeds what is declared.
 #[test]
 fn a_run_ends_at_the_declared_size(rt: HostRuntime) {
     let alloc = rt.alloc();
@@ -48,7 +48,7 @@ fn a_run_ends_at_the_declared_size(rt: HostRuntime) {
     }
 }
 
-/// How many entries a jar lists whose packed bytes are the same.
+/// How many entries a jar lists if their packed bytes are the same.
 fn count_listed(alloc: Global, count: u16) -> Result<usize, AllocError> {
     let bytes = jar_of(alloc, &[3, 0], 0, 0, count)?;
     Ok(Jar::read(alloc, &bytes).map_or(0, |jar| jar.entries().len()))

@@ -29,7 +29,7 @@ same_byte : (at : ℕ) (a b : List ℕ) → part at 1 a ≡ part at 1 b → get_
 same_byte at a b e =
     sym (byte_of at a) ∙ (ap (λ (l : List ℕ). get_or l 0 0) e ∙ byte_of at b)
 
--- a record, behind the beginning of the roots
+-- a record, counted from the beginning of the roots
 pub record_part : (sizes : Sizes) (r : ClassRow) (contents : List ℕ)
     → take (8 * r.place.words)
     (drop (record_in_roots sizes r.place) (drop (roots_at sizes) contents))

@@ -1,4 +1,5 @@
--- Chunks of rows that keep the rules share no word, but for the records of one loader on one chunk.
+-- Chunks of rows that keep the rules share no word, except those with records of one loader on one
+-- chunk.
 -- For `live_rows_go_on` and others.
 use Rattle.std.proofs.Common.{◌≡◌, ℕ, ◌+◌, ◌⊎◌, Bool, true, false, cond, List, [], ◌∷◌}
 use Rattle.std.proofs.Common.{◌++◌, length, map, Some, None, inl, inr, refl, sym, ap, subst}
@@ -32,9 +33,9 @@ use Rattle.cm_layout.proofs.ClassPlaces.{is_last_chunk-among}
 
 -- ---- rows of classes
 
--- ---- one entry more
+-- ---- one more entry
 
--- a row whose chunk meets others' only where they are its own loader's, on the same chunk
+-- the row's chunk meets a chunk of the others only if it is the same chunk, with the same loader
 abbrev Joins : ClassRow → List ClassRow → Type 0
 Joins r classes =
     (s : ClassRow) → Among s classes → Meets r.place.chunk s.place.chunk
@@ -109,7 +110,7 @@ loader-apart rows row none apart =
     (sym (classes_in-append rows (row ∷ []) ∙ ap (λ l. classes_in rows ++ l) none ∙ append-nil
     (classes_in rows))) apart
 
--- fewer rows are apart
+-- some of these rows are apart too
 fewer-apart : (classes fewer : List ClassRow) → ((x : ClassRow) → Among x fewer → Among x classes)
     → AreApart classes → AreApart fewer
 fewer-apart classes fewer among apart x y mx my m = apart x y (among x mx) (among y my) m
@@ -168,7 +169,7 @@ classes_in-moved from to (Class r p ∷ rows) =
     by_test true behind = ap (λ l. record r { place = record r.place { chunk = to } } ∷ l) behind
     by_test false behind = ap (λ l. r ∷ l) behind
 
--- a row after a move was one before it
+-- a row after a move is the move of a row before it
 moved-among : (from to : Chunk) (classes : List ClassRow) (x : ClassRow)
     → Among x (map (moved_class from to) classes)
     → (r : ClassRow) × Among r classes × (x ≡ moved_class from to r)
@@ -177,7 +178,7 @@ moved-among from to (r ∷ classes) x (inl e) = (r, inl refl, e)
 moved-among from to (r ∷ classes) x (inr m) =
     let found = moved-among from to classes x m in (found.0, inr found.1, found.2)
 
--- where a class lies after a move: on the new chunk, from the old one; or where it was
+-- where a class is after a move: on the new chunk, if it was on the old one; else where it was
 WasMoved : Chunk → Chunk → ClassRow → ClassRow → Type 0
 WasMoved from to r x =
     (x.loader ≡ r.loader)

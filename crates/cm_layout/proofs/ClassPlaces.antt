@@ -1,4 +1,4 @@
--- Where classes lie: what the tests on chunks, on last chunks and on words in use say.
+-- Where classes are: what the tests on chunks, on last chunks and on words in use say.
 -- For `live_rows_go_on`, `loaders_are_own`, `rows_stay_live` and others.
 use Rattle.std.proofs.Common.{◌≡◌, ℕ, ◌+◌, ◌≤◌, Bool, true, false, cond, List, [], ◌∷◌}
 use Rattle.std.proofs.Common.{◌++◌, map, Option, Some, None, inl, inr, refl, sym, ap, subst, ◌∙◌}
@@ -138,7 +138,7 @@ is_last_chunk-among u c rows h = by_last (last_chunk u (classes_in rows)) refl h
         (found.0, found.1, found.2, found.3 ∙ same_chunk-true last c is)
     by_last None e is = absurd (cc)
 
--- where a class begins in its chunk there are as many words used before it, or none
+-- where a class begins in its chunk: after as many words as those before it use, or at 0
 pub begins_behind : {A : Type 0} (pre : List (Row A)) (r : ClassRow) → has_place pre r ≡ true
     → r.place.offset ≤ used_words r.place.chunk pre
 begins_behind pre r h =

@@ -1,5 +1,5 @@
--- What is kept of the classes on one chunk: after each change of the rows, and where it stands once
--- it is moved.
+-- What is kept of the classes on one chunk: after each change of the rows, and where it is once it
+-- is moved.
 -- For `moves_stand`, and on `kept_on` for crates above.
 use Rattle.std.proofs.Common.{◌≡◌, ℕ, ◌+◌, Bool, true, false, cond, List, [], ◌∷◌, ◌++◌}
 use Rattle.std.proofs.Common.{map, length, refl, sym, ap, subst, ◌∙◌, arith, eqb, inl, inr}
@@ -53,7 +53,7 @@ kept-with {P} {Q} f c (Class r p ∷ rows) =
 
 -- ---- a chunk that no row uses
 
--- no class lies on the chunk
+-- no class is on the chunk
 abbrev pub NoneOn : Chunk → List ClassRow → Type 0
 NoneOn c classes = (s : ClassRow) → Among s classes → same_chunk s.place.chunk c ≡ false
 
@@ -99,7 +99,7 @@ begins-at pre r h =
           ∙ sym (none-used c pre (unused-none c pre parts.1))
     ]
 
--- ---- after an Unload, and after a Move
+-- ---- after an Unload and after a Move
 
 pub kept-without : {P : Type 0} (c : Chunk) (u : ℕ) (rows : List (Row P))
     → ((s : ClassRow) → Among s (classes_in rows) → s.loader ≡ u
@@ -124,7 +124,7 @@ kept-without {P} c u (Class r p ∷ rows) none =
     by_test false is rest =
         ap (λ (l : List P). cond (same_chunk r.place.chunk c) (p ∷ l) l) rest
 
--- on another chunk than those of the move
+-- what is kept on a chunk that isn't one of the move's
 pub kept-elsewhere : {P : Type 0} (c from to : Chunk) (rows : List (Row P))
     → same_chunk from c ≡ false → same_chunk to c ≡ false
     → kept_on c (moved from to rows) ≡ kept_on c rows
@@ -146,7 +146,7 @@ kept-elsewhere {P} c from to (Class r p ∷ rows) f t =
     by_test false is rest =
         ap (λ (l : List P). cond (same_chunk r.place.chunk c) (p ∷ l) l) rest
 
--- on the new chunk, which had none
+-- what is kept on the new chunk, which had none
 pub kept-onto : {P : Type 0} (from to : Chunk) (rows : List (Row P)) → NoneOn to (classes_in rows)
     → kept_on to (moved from to rows) ≡ kept_on from rows
 kept-onto from to [] none = refl
@@ -161,7 +161,7 @@ kept-onto {P} from to (Class r p ∷ rows) none =
     by_test true rest = rw (same_chunk-itself to) (ap (λ (l : List P). p ∷ l) rest)
     by_test false rest = rw (none r (inl refl)) rest
 
--- ---- where the records stand
+-- ---- where the records are
 
 used-more : (c : Chunk) (pre : List BareRow) (row : BareRow) (n : ℕ) → used_words c (row ∷ []) ≡ n
     → used_words c (pre ++ row ∷ []) ≡ used_words c pre + n
@@ -171,7 +171,7 @@ module _ (sizes : Sizes) (n : ℕ) (from to : Chunk) (roots : List ℕ) where
   abbrev Laid : List (Place × List ℕ) → Type 0
   Laid writes = AllByRecursion (λ w. StandsAt sizes roots w.0 w.1) writes
 
-  -- the record of a row stands on the new chunk
+  -- the record of a row is on the new chunk
   on-new : (r : ClassRow) (words : List ℕ) (offset : ℕ) → HoldsRecord sizes roots r words
       → r.place.offset ≡ offset
       → StandsAt sizes roots (record { chunk = to; offset = offset; words = length words }) words

@@ -1,4 +1,4 @@
--- The slots of a loader: how many bytes they are, and that they tell its name.
+-- The slots of a loader: how many bytes they have, and that they determine its name.
 -- For `slot_determines_entry`, `LoaderRow::decode` and others.
 use Rattle.std.proofs.Common.{◌≡◌, ℕ, ◌-◌, ◌*◌, ◌≤◌, Bool, true, false, cond, List, [], ◌++◌}
 use Rattle.std.proofs.Common.{length, take, drop, get_or, refl, sym, ap, ◌∙◌, arith, append-nil}
@@ -45,7 +45,7 @@ pub rest_slot-count : (name : List ℕ) → length name ≤ long_name_room
 rest_slot-count name fits =
     omega (arith, length-drop name_room (padded name), padded-whole name fits)
 
--- as many as the slots that it takes
+-- a loader has as many bytes as the slots that it takes
 pub loader_slots-count : (r : LoaderRow) → length r.name ≤ long_name_room
     → length (loader_slots r) ≡ 64 * slots_of_name r.name
 loader_slots-count r fits = by_test (is_long r.name)
@@ -70,7 +70,7 @@ not_long name fits = by_test (is_long name) refl
     by_test true e = absurd (omega (arith, ltb-true name_room (length name) e, fits))
     by_test false e = refl
 
--- a name of any version has room in two slots
+-- a name of any version fits into two slots
 pub within-room : (version n : ℕ) → n ≤ limit_of version → n ≤ long_name_room
 within-room version n = by_test (version == 1)
   where
@@ -80,7 +80,7 @@ within-room version n = by_test (version == 1)
 
 -- ---- the name is read back
 
--- what stands where a loader's slots have its name
+-- the bytes at the place of the name in a loader's slots
 abbrev pub name_in : List ℕ → List ℕ
 name_in slots = take (get_or slots 2 0) (take 48 (drop 16 slots) ++ drop 80 slots)
 
@@ -114,7 +114,7 @@ name-back r fits = by_test (is_long r.name) refl
         ap (take (length r.name)) ((λ i. first i ++ second i) ∙ append-nil front)
         ∙ (take-take (length r.name) name_room (padded r.name) short ∙ whole)
 
--- and where other slots may follow, zeros stand for the second where there is none
+-- the same if other slots may follow: zeros stand for the second slot if there is none
 abbrev pub room_in : List ℕ → List ℕ
 room_in slots =
     take name_room (drop 16 slots)

@@ -1,4 +1,4 @@
--- Contents frame rows exactly where they match a framing that is right for them.
+-- Contents frame rows exactly if they match a framing that is right for them.
 -- For `frames_are_matched` and others.
 use Rattle.std.proofs.Common.{◌≡◌, ◌≢◌, ℕ, ◌+◌, ◌<◌, ◌≤◌, ◌⊎◌, List, [], ◌∷◌, ◌++◌, length, take}
 use Rattle.std.proofs.Common.{drop, get_or, Option, Some, None, inl, inr, refl, sym, ap, subst, ◌∙◌}
@@ -20,7 +20,8 @@ use Rattle.cm_layout.specs.Rows.{bare}
 use Rattle.cm_layout.specs.Frames.{BareRow, Frames, Region, region_bytes, Counts, OpenHalf}
 use Rattle.cm_layout.specs.Frames.{IsGoodHalf}
 use Rattle.cm_layout.specs.Frames.{IsEnd, IsOlder, HoldsRow, half_bytes, groups_slots}
-use Rattle.cm_layout.specs.Framing.{Framing, IsRight, Matches, HasOlder, IsRightOlder, part, needs}
+use Rattle.cm_layout.specs.Framing.{Framing, IsRightFraming, Matches, HasOlder, IsRightOlder, part}
+use Rattle.cm_layout.specs.Framing.{needs}
 use Rattle.cm_layout.specs.Framing.{used_bytes, used_size, open_half, other_half}
 use Rattle.cm_layout.specs.Laws.{IsFramed, FramesAreMatched, MatchesFrame}
 use Rattle.cm_layout.proofs.Superblocks.{length-blank}
@@ -40,7 +41,7 @@ length-superblock sizes =
 behind_front : (front rest : List ℕ) (n : ℕ) → length front ≡ n → drop n (front ++ rest) ≡ rest
 behind_front front rest n e = drop_at front rest n e
 
--- where each half and the roots lie
+-- where each half and the roots are
 record Lies (sizes : Sizes) (contents half_0 half_1 roots : List ℕ) : Type 0 where
   front : take superblock_size contents ≡ superblock_bytes sizes
   zero : drop superblock_size contents ≡ half_0 ++ (half_1 ++ roots)
@@ -102,7 +103,7 @@ first_byte : (bytes : List ℕ) → IsEnd bytes → 0 < length bytes → get_or 
 first_byte [] e some = absurd (omega (arith, some))
 first_byte (b ∷ bytes) e some = e
 
--- what is found where the half lies that counts
+-- what is found at the half that counts
 record Found (at : ℕ) (size : ℕ) (f : Framing) (contents : List ℕ) : Type 0 where
   fits : used_size f ≤ size
   used : part at (used_size f) contents ≡ used_bytes f
@@ -229,7 +230,7 @@ abbrev pub counted_head : {sizes : Sizes} {zero one : List ℕ} {rows : List Bar
 counted_head (inl c) = c.half.head
 counted_head (inr c) = c.half.head
 
--- the framing has that head
+-- the framing has this head
 pub matched_head : (sizes : Sizes) (contents : List ℕ) (rows : List (Row (List ℕ))) (n : ℕ)
     (f : Frames sizes contents rows n)
     → (m : IsFramed sizes contents rows n) × (m.framing.head ≡ counted_head f.counts)
@@ -292,7 +293,7 @@ end_from : (bytes : List ℕ) → (0 < length bytes → get_or bytes 0 0 ≢ ope
 end_from [] h = tt
 end_from (b ∷ bytes) h = h (omega arith)
 
--- the half that counts, out of what matches
+-- the half that counts, from what matches
 pub half_back : (sizes : Sizes) (f : Framing) (at : ℕ) (contents : List ℕ)
     → at + half_size sizes ≤ length contents → used_size f ≤ half_size sizes
     → part at (used_size f) contents ≡ used_bytes f
@@ -350,7 +351,7 @@ needs_roots sizes (Loader r ∷ rows) = needs_roots sizes rows
 needs_roots sizes (Class r words ∷ rows) = let rest = needs_roots sizes rows in omega (arith, rest)
 
 counts_back : (sizes : Sizes) (f : Framing) (rows : List (Row (List ℕ))) (n : ℕ)
-    (half other : List ℕ) → IsRight sizes f rows n
+    (half other : List ℕ) → IsRightFraming sizes f rows n
     → (behind : List ℕ) × (half ≡ used_bytes f ++ behind) × IsEnd behind
     → IsOlder sizes f.head.epoch other → Counts sizes half other (bare rows) n
 unfolding framing_of
@@ -389,7 +390,7 @@ matches_frame sizes contents rows n framed =
       apart = right.apart;
     }
   where
-    right : IsRight sizes framed.framing rows n
+    right : IsRightFraming sizes framed.framing rows n
     right = framed.right
 
     m : Matches sizes framed.framing rows contents
@@ -401,7 +402,7 @@ matches_frame sizes contents rows n framed =
     slots : slot_size ≤ half_size sizes
     slots = omega (arith, right.lawful.slots_from)
 
-    by_half : (f : Framing) → IsRight sizes f rows n → Matches sizes f rows contents
+    by_half : (f : Framing) → IsRightFraming sizes f rows n → Matches sizes f rows contents
         → Counts sizes (part superblock_size (half_size sizes) contents)
         (part (superblock_size + half_size sizes) (half_size sizes) contents) (bare rows) n
         ⊎ Counts sizes (part (superblock_size + half_size sizes) (half_size sizes) contents)

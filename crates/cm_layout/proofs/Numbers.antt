@@ -1,4 +1,4 @@
--- Numbers that are written one behind another are read back.
+-- Numbers that are written one after another are read back.
 -- For `UnloadAll::at_its_places`.
 use Rattle.std.proofs.Common.{◌≡◌, ℕ, zero, suc, ◌*◌, ◌-◌, ◌<◌, ◌≤◌, ◌^◌, List, [], ◌∷◌, ◌++◌}
 use Rattle.std.proofs.Common.{length, take, drop, get_or, refl, sym, ap, ◌∙◌, arith}
@@ -55,7 +55,7 @@ append-small : (us vs : List ℕ) → AreSmall us → AreSmall vs → AreSmall (
 append-small [] vs su sv = sv
 append-small (u ∷ us) vs su sv = (su.0, append-small us vs su.1 sv)
 
--- of as many numbers as there is room for, zeros in the place of those that there could be more
+-- the numbers are read back from a field with room for more, filled up with zeros
 pub numbers-back : (us numbers : List ℕ) (room : ℕ) → AreSmall us → length us ≤ room
     → length numbers ≡ room
     → IsRead little_number 8 (flat_map (to_le_bytes w64) (us ++ zeros (room - length us))) numbers

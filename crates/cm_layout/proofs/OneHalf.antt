@@ -23,7 +23,7 @@ inside : (sizes : Sizes) (h : Half) (contents : List ℕ) → roots_at sizes ≤
 inside sizes Zero contents long = omega (arith, long)
 inside sizes One contents long = omega (arith, long)
 
--- the half that counts, with what stands behind its end
+-- the half that counts, with the bytes after its end
 abbrev with_behind : Framing → List ℕ → OpenHalf
 with_behind f behind =
     record { head = f.head; live = f.live; groups = f.groups; behind = behind }
@@ -71,7 +71,7 @@ head_here sizes contents rows n a =
     ∙ take_at (half_head_slot f.head)
     (flat_map row_slots f.live ++ (groups_slots f.head.base f.groups ++ o.behind)) slot_size refl)
 
--- a head that stands where the other half is has a lower epoch
+-- a head at the beginning of the other half has a lower epoch
 lower : (sizes : Sizes) (at epoch : ℕ) (older : Option HalfHead) (contents : List ℕ)
     (head : HalfHead) → IsGoodHead sizes head
     → part at slot_size contents ≡ half_head_slot head → HasOlder at older contents
@@ -93,7 +93,7 @@ module _ (sizes : Sizes) (contents : List ℕ) (rows more : List (Row (List ℕ)
   abbrev g : Framing
   g = b.framing
 
-  -- both can't count
+  -- not both halves count
   not_beside : g.counting ≡ other_half f.counting → f.counting ≡ other_half g.counting → ⊥
   not_beside beside back =
       let first : g.head.epoch < f.head.epoch =

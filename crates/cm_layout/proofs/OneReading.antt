@@ -56,7 +56,7 @@ same_sizes s t x y gs gt e =
     (omega (arith, gs.slots_to)) (omega (arith, gt.slots_to)) refl refl front in
     (λ i. record { top = top i; roots = roots i; slots = slots i })
 
--- ---- slots one behind another
+-- ---- slots one after another
 
 -- an entry has as many bytes as the slots that it takes
 pub slot_count : (e : BareEntry) → FitsEntry e → length (entry_slots e) ≡ 64 * slots_of e
@@ -82,7 +82,7 @@ said (entry.Unload e) x = refl
 said (entry.Move e) x = refl
 said (entry.UnloadAll e) x = refl
 
--- the first entries of two lists are one, and so are the rest
+-- the first entries of two lists are one, and so are the lists after them
 first_entry : (d e : BareEntry) (x y : List ℕ) → FitsEntry d → FitsEntry e
     → entry_slots d ++ x ≡ entry_slots e ++ y → (d ≡ e) × (x ≡ y)
 first_entry d e x y fd fe h =
@@ -162,7 +162,7 @@ head_fits sizes rows n g k = record {
   first = omega (arith, k.numbers);
 }
 
--- two groups that begin alike are one
+-- two groups that begin alike are the same
 same_group : (sizes : Sizes) (rows : List BareRow) (n : ℕ) (g h : List BareEntry) (x y : List ℕ)
     → GroupKeeps sizes rows n g → GroupKeeps sizes rows n h
     → group_slots n g ++ x ≡ group_slots n h ++ y → (g ≡ h) × (x ≡ y)
@@ -203,7 +203,7 @@ same_heads : (sizes : Sizes) (h g : HalfHead) (x y : List ℕ) → IsGoodHead si
 same_heads sizes h g x y kh kg e =
     (same_half_head h g kh.fits kg.fits (ap (take 64) e), ap (drop 64) e)
 
--- halves with the same bytes are one, but for what stands behind their end
+-- halves with the same bytes are the same, apart from the bytes after their end
 pub record AreOne (h g : OpenHalf) : Type 0 where
   pub head : h.head ≡ g.head
   pub live : h.live ≡ g.live
@@ -247,7 +247,7 @@ same_half sizes h g kh kg e =
       (λ i. (one.head i).base + length (flat_map (λ group. group) (one.groups i))),
     )
 
--- a half that counts doesn't let the other count
+-- if one half counts, the other doesn't
 newer : (sizes : Sizes) (a b : OpenHalf) (bytes : List ℕ) → IsGoodHalf sizes b
     → bytes ≡ half_bytes b
     → IsOlder sizes a.head.epoch bytes → b.head.epoch < a.head.epoch

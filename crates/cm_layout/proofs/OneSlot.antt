@@ -13,7 +13,7 @@ use Rattle.cm_pool.specs.declared.chunk.Chunk.{Chunk}
 use Rattle.cm_layout.specs.declared.loader_row.LoaderRow.{LoaderRow}
 use Rattle.cm_layout.specs.declared.class_row.ClassRow.{ClassRow}
 use Rattle.cm_layout.specs.declared.unload.Unload.{Unload}
-use Rattle.cm_layout.specs.declared.relocation.Move.{Move}
+use Rattle.cm_layout.specs.declared.move_entry.Move.{Move}
 use Rattle.cm_layout.specs.declared.unload_all.UnloadAll.{UnloadAll}
 use Rattle.cm_layout.specs.declared.row.Row.{Row}
 use Rattle.cm_layout.specs.declared.row.Row.TheVariants.{Loader, Class}
@@ -26,7 +26,7 @@ use Rattle.cm_layout.specs.Slots.{FitsGroupHead, FitsUnloadAll, unload_all_slot}
 use Rattle.cm_layout.specs.Zeros.{zeros}
 use Rattle.cm_layout.proofs.LoaderSlots.{name_in, name-back}
 
--- the numbers that stand at a place
+-- the numbers at a place
 abbrev two_at : ℕ → List ℕ → ℕ
 two_at at slot = from_le_bytes w16 (take 2 (drop at slot))
 

@@ -1,4 +1,4 @@
--- Live rows that keep the rules: their loaders differ, have numbers of the past, and own each
+-- Live rows that keep the rules: their loaders differ, have numbers of past commands, and own each
 -- class.
 -- For `loaders_are_own` and others.
 use Rattle.std.proofs.Common.{◌≡◌, ℕ, ◌<◌, ◌≤◌, Bool, true, false, cond, List, [], ◌∷◌, ◌++◌}
@@ -20,7 +20,7 @@ use Rattle.cm_layout.specs.Loaders.{LoadersDiffer, HasOwnLoaders}
 use Rattle.cm_layout.specs.Frames.{BareRow, LiveRowsKeep}
 use Rattle.cm_layout.proofs.StayLive.{loader_keeps, class_keeps}
 
--- ---- rows behind others
+-- ---- rows after others
 
 pub or_else : {A : Type 0} → Option A → Option A → Option A
 or_else (Some a) o = Some a
@@ -105,7 +105,7 @@ some_not_none : {A : Type 0} (o : Option A) → is_some o ≡ true → is_none o
 some_not_none None h n = absurd (cc)
 some_not_none (Some a) h n = absurd (cc)
 
--- ---- names and numbers of rows behind others
+-- ---- names and numbers of rows after others
 
 name-apart : (sizes : Sizes) (n : ℕ) (pre rows : List BareRow) (x : List ℕ)
     → LiveRowsKeep sizes n pre rows → is_some (number_of x pre) ≡ true → number_of x rows ≡ None

@@ -1,4 +1,4 @@
--- A list that is copied into zeros has zeros behind it.
+-- A list that is copied into zeros is followed by zeros.
 -- For `SlotName::new`, `SlotName::rest`, `LoaderNumbers::new`.
 use Rattle.std.proofs.Common.{◌≡◌, ◌≤◌, ℕ, ◌+◌, ◌-◌, length, List, [], ◌++◌, replicate, take, drop}
 use Rattle.std.proofs.Common.{sym, ap, ◌∙◌, arith, append-nil, length-append, length-drop}
@@ -33,7 +33,7 @@ padded-is bytes name n is fits count whole =
     sym (length-take-le n bytes (omega (arith, fits, count))) ∙ ap length is in
     whole ∙ (λ i. is i ++ replicate (96 - long i) 0)
 
--- what stands from a place on is all that is left
+-- what there is from a place on is all that is left
 pub all_left : (a k : ℕ) (xs : List ℕ) → length xs ≡ a + k → take k (drop a xs) ≡ drop a xs
 all_left a k xs count =
     let none : drop k (drop a xs) ≡ [] =

@@ -22,12 +22,12 @@ pub slots-row : {P : Type 0} (row : Row P) → (1 ≤ slots_of_row row) × (slot
 slots-row (Loader r) = slots-name r.name
 slots-row (Class r p) = (omega arith, omega arith)
 
--- so there are no fewer slots than rows
+-- there are no fewer slots than rows
 pub rows-within : {P : Type 0} (rows : List (Row P)) → length rows ≤ slots_of_rows rows
 rows-within [] = omega arith
 rows-within (row ∷ rows) = omega (arith, rows-within rows, (slots-row row).0)
 
--- and no more than twice as many
+-- there are at most twice as many slots as rows
 pub slots-within : {P : Type 0} (rows : List (Row P))
     → slots_of_rows rows ≤ length rows + length rows
 slots-within [] = omega arith

@@ -6,7 +6,7 @@ use Rattle.std.proofs.lemmas.List.{take_at, drop_at, take-append-drop}
 use Rattle.std.proofs.Math.ListN.{drop_of_length-le}
 use Rattle.cm_layout.specs.Zeros.{zeros}
 
--- so many bytes are used, and the others are zeros
+-- this many bytes are used, and the others are zeros
 abbrev pub AreSlots : List ℕ → ℕ → Type 0
 AreSlots bytes len =
     (len ≤ 128) × (length bytes ≡ 128) × (bytes ≡ take len bytes ++ zeros (128 - len))
@@ -37,7 +37,7 @@ of_two first second bytes one other is =
       all ∙ is,
     )
 
--- a second part, where the first, of as many bytes, has been put before zeros
+-- a second part, if the first, of as many bytes, has been put before zeros
 pub put_second : (n : ℕ) (first second front behind : List ℕ) → length first ≡ n → front ≡ first
     → length behind ≡ n
     → take n (front ++ behind) ++ (second ++ drop n (drop n (front ++ behind)))

@@ -166,7 +166,7 @@ keeps_class sizes pre r k =
     (and_true (chunk && words && within) (has_place pre r)
     (and_true (chunk && words) within (and_true chunk words k.chunk k.words) k.within) k.place)
 
--- ---- a row more, and a higher base
+-- ---- one more row, and a higher base
 
 pub live-append : (sizes : Sizes) (base : ℕ) (pre rows : List BareRow) (row : BareRow)
     → LiveRowsKeep sizes base pre rows → FitsRow row
@@ -291,7 +291,7 @@ live-without v u (Class r c ∷ rows) other h =
     by_test true rest = rest
     by_test false rest = rest
 
--- the last chunk of a loader, behind a row of another
+-- the last chunk of a loader, after a row of another loader
 last_behind : (v : ℕ) (r : ClassRow) (o : Option Chunk) → eqb r.loader v ≡ false
     → elim o [ Some d ↦ Some d | None ↦ cond (eqb r.loader v) (Some r.place.chunk) None ] ≡ o
 last_behind v r (Some d) e = refl
@@ -588,7 +588,7 @@ words_on : Chunk → List ClassRow → List ℕ
 words_on c classes = map (λ (r : ClassRow). r.place.words) (filter
     (λ (r : ClassRow). same_chunk r.place.chunk c) classes)
 
--- .. on another one than those of the move, and on the new one, which had none
+-- the words on a chunk that isn't one of the move's, and on the new one, which had none
 words-elsewhere : (c from to : Chunk) (classes : List ClassRow) → same_chunk from c ≡ false
     → same_chunk to c ≡ false → words_on c (map (moved_class from to) classes) ≡ words_on c classes
 unfolding words_on moved_class
@@ -662,7 +662,7 @@ unused-moved c from to (r ∷ classes) apart h =
     by_test rest true false is free = rw apart (rest free)
     by_test rest false false is free = rw is (rest free)
 
--- where nothing lies on a chunk, nothing moves
+-- if nothing is on a chunk, nothing moves
 none_moved : (from to : Chunk) (classes : List ClassRow)
     → not (list_any (meets from) (map (λ (r : ClassRow). r.place.chunk) classes)) ≡ true
     → map (moved_class from to) classes ≡ classes
@@ -774,7 +774,7 @@ pub last_chunk-moved : (v : ℕ) (from to : Chunk) (rows : List BareRow)
 last_chunk-moved v from to rows =
     ap (last_chunk v) (classes_in-moved from to rows) ∙ last-moved v from to (classes_in rows)
 
--- a row that stays where it is has its place among the rows that moved
+-- a row that stays where it is keeps its place among the rows that moved
 place-kept : (from to : Chunk) (pre : List BareRow) (r : ClassRow)
     → same_chunk r.place.chunk from ≡ false → meets to r.place.chunk ≡ false
     → has_place pre r ≡ true → has_place (moved from to pre) r ≡ true
@@ -1026,7 +1026,7 @@ none_at_all : (c : Chunk) → NoneMeets c []
 unfolding NoneMeets
 none_at_all c s m = absurd m
 
--- loaders' numbers are of the past
+-- loaders' numbers are those of past commands
 AreBelow : ℕ → List ℕ → Type 0
 AreBelow n [] = Unit {0}
 AreBelow n (u ∷ numbers) = (u ≤ n) × AreBelow n numbers

@@ -35,7 +35,7 @@ pub length-blank : (n : ℕ) → length (blank n) ≡ n
 unfolding blank
 length-blank n = length-replicate n 0
 
--- its bytes as they are put together: the front, filled up with zeros, and the gate
+-- its bytes as they are built: the front, filled up with zeros, and the gate
 pub spelled : (g : Sizes) (n : ℕ) (bytes filled all : List ℕ) → bytes ≡ superblock_front g → n ≡ 24
     → filled ≡ take 4095 bytes ++ replicate (4095 - n) 0 → all ≡ filled ++ 165 ∷ []
     → all ≡ superblock_bytes g

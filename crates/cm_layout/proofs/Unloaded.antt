@@ -1,4 +1,4 @@
--- Loaders that go at once: each is live in its turn, and the others stay.
+-- Loaders that are unloaded at once: each is live in its turn, and the others stay.
 -- On `without_loaders`, `differ`, `are_live`, for crates above.
 use Rattle.std.proofs.Common.{◌≡◌, ℕ, Bool, true, false, cond, List, [], ◌∷◌, Some, None, refl}
 use Rattle.std.proofs.Common.{ap, ◌∙◌, eqb, is_some}
@@ -11,7 +11,7 @@ use Rattle.cm_layout.specs.Rows.{name_of, without_loader}
 use Rattle.cm_layout.specs.Rules.{is_live, are_live, differ}
 
 module _ {P : Type 0} where
-  -- a loader that goes has no name then
+  -- an unloaded loader has no name afterwards
   pub name-gone : (u : ℕ) (rows : List (Row P)) → name_of u (without_loader u rows) ≡ None
   name-gone u [] = refl
   name-gone u (Loader r ∷ rows) = by_test (eqb r.number u) refl (name-gone u rows)
@@ -29,7 +29,7 @@ module _ {P : Type 0} where
       by_test true rest = rest
       by_test false rest = rest
 
-  -- another keeps its own
+  -- another loader keeps its own
   pub name-without : (v u : ℕ) (rows : List (Row P)) → eqb u v ≡ false
       → name_of v (without_loader u rows) ≡ name_of v rows
   name-without v u [] other = refl
@@ -56,7 +56,7 @@ module _ {P : Type 0} where
       by_test true rest = rest
       by_test false rest = rest
 
-  -- the others are live without one of another number as they were with it
+  -- removing a loader of another number doesn't change whether the others are live
   others-live : (u : ℕ) (us : List ℕ) (rows : List (Row P))
       → list_all (λ v. not (eqb u v)) us ≡ true
       → are_live us (without_loader u rows) ≡ are_live us rows

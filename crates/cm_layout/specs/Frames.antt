@@ -1,7 +1,6 @@
 -- The region file as a whole: which contents frame which rows and which number. They are the
 -- superblock, two halves of the journal and the roots; the half that counts, the open one of
--- greater epoch, says which rows live; each row of a class says where in the roots its record
--- stands.
+-- greater epoch, says which rows live; each row of a class says where in the roots its record is.
 use Rattle.std.specs.Prelude.{◌≡◌, ◌≢◌, ℕ, ◌+◌, ◌*◌, ◌^◌, ◌<◌, ◌≤◌, ◌⊎◌, List, [], ◌∷◌, ◌++◌}
 use Rattle.std.specs.Prelude.{length, take, drop, None}
 use Rattle.std.specs.List.{flat_map, AllByRecursion}
@@ -24,7 +23,7 @@ use Rattle.cm_layout.specs.Rows.{rows_after}
 use Rattle.cm_layout.specs.Rows.{rows_after_all, bare, row_with, entry_with}
 use Rattle.cm_layout.specs.Rules.{row_limit, broken_rule, broken_live_rule}
 
--- with nothing kept of a class, as in the journal
+-- rows and entries with nothing kept of a class, as in the journal
 abbrev pub BareRow : Type 0
 BareRow = Row (Unit {0})
 
@@ -37,7 +36,7 @@ bare_row row = row_with (λ p. tt {0}) row
 abbrev pub bare_entry : {P : Type 0} → Entry P → BareEntry
 bare_entry e = entry_with (λ p. tt {0}) e
 
--- ---- rows, entries and groups, one behind another
+-- ---- rows, entries and groups, one after another
 
 -- live rows, each after those before it
 abbrev pub LiveRowsKeep : Sizes → ℕ → List BareRow → List BareRow → Type 0
@@ -79,7 +78,7 @@ abbrev pub groups_slots : ℕ → List (List BareEntry) → List ℕ
 groups_slots n [] = []
 groups_slots n (group ∷ groups) = group_slots n group ++ groups_slots (n + length group) groups
 
--- the end of the half, or a byte that opens no gate
+-- the end of the half, or a byte that doesn't open a gate
 abbrev pub IsEnd : List ℕ → Type 0
 IsEnd [] = Unit {0}
 IsEnd (b ∷ bytes) = b ≢ open_gate
@@ -91,8 +90,8 @@ entry_version = 2
 abbrev pub oldest_version : ℕ
 oldest_version = 1
 
--- Each half that is written anew has an epoch more, and each but the first of a file comes after a
--- command, or moves an older file over.
+-- Each half that is written anew has the next epoch. Each but the first of a file is written after
+-- a command, or to upgrade a file of version 1.
 pub record IsGoodHead (sizes : Sizes) (head : HalfHead) : Type 0 where
   pub fits : FitsHalfHead head
   pub version_from : oldest_version ≤ head.version
@@ -102,7 +101,7 @@ pub record IsGoodHead (sizes : Sizes) (head : HalfHead) : Type 0 where
   pub epoch_from : 1 ≤ head.epoch
   pub epoch_to : head.epoch ≤ head.base + head.version
 
--- What an open half holds: its head, the live rows, the groups, and what stands behind their end.
+-- What an open half holds: its head, the live rows, the groups, and the bytes after their end.
 pub record OpenHalf : Type 0 where
   pub head : HalfHead
   pub live : List BareRow
@@ -123,7 +122,7 @@ pub record IsGoodHalf (sizes : Sizes) (h : OpenHalf) : Type 0 where
   pub groups_version : AllByRecursion (AllByRecursion (EntryOfVersion h.head.version)) h.groups
   pub end : IsEnd h.behind
 
--- its entries, the rows that live after them, and the number of the last command
+-- a half's entries, the rows that live after them, and the number of the last command
 abbrev pub entries_of : OpenHalf → List BareEntry
 entries_of h = flat_map (λ group. group) h.groups
 
@@ -151,7 +150,7 @@ pub record Counts (sizes : Sizes) (counting other : List ℕ) (rows : List BareR
 
 -- ---- records in the roots
 
--- the record of a row stands in its place, in a whole root
+-- the record of a row is in its place, in a whole root
 pub record HoldsRecord (sizes : Sizes) (roots : List ℕ) (r : ClassRow)
     (words : List ℕ) : Type 0 where
   pub count : length words ≡ r.place.words

@@ -1,5 +1,5 @@
--- What contents match, place by place: the working form of `Frames`, which joins whole parts. A
--- framing has no contents in it; contents match it where each guarded range holds what it says.
+-- Contents matched place by place: the working form of `Frames`, which joins whole parts. A framing
+-- has no contents in it; contents match it if each guarded range holds what the framing says.
 use Rattle.std.specs.Prelude.{◌≡◌, ◌≢◌, ℕ, ◌+◌, ◌*◌, ◌<◌, ◌≤◌, max, List, [], ◌∷◌, ◌++◌, length}
 use Rattle.std.specs.Prelude.{take, drop, get_or, Option, Some, None, nat_lt, if◌then◌else◌}
 use Rattle.std.specs.List.{flat_map, AllByRecursion}
@@ -33,7 +33,7 @@ Agree (r ∷ ranges) a b = (part r.at r.count a ≡ part r.at r.count b) × Agre
 
 -- ---- a framing
 
--- which half counts, what it holds up to its end, and the head of the other, where that is open
+-- which half counts, what it holds up to its end, and the head of the other, if that is open
 pub record Framing : Type 0 where
   pub counting : Half
   pub head : HalfHead
@@ -60,8 +60,8 @@ abbrev pub IsRightOlder : Sizes → ℕ → Option HalfHead → Type 0
 IsRightOlder sizes epoch None = Unit {0}
 IsRightOlder sizes epoch (Some head) = IsGoodHead sizes head × (head.epoch < epoch)
 
--- the framing is right for these rows and this number, whatever contents match it
-pub record IsRight (sizes : Sizes) (f : Framing) (rows : List (Row (List ℕ)))
+-- the framing is right for these rows and this number, whichever contents match it
+pub record IsRightFraming (sizes : Sizes) (f : Framing) (rows : List (Row (List ℕ)))
     (number : ℕ) : Type 0 where
   pub lawful : IsGeometry sizes
   pub fits : used_size f ≤ half_size sizes
@@ -79,7 +79,7 @@ needs sizes [] = roots_at sizes
 needs sizes (Loader r ∷ rows) = needs sizes rows
 needs sizes (Class r words ∷ rows) = max (root_at sizes (r.place.chunk.root + 1)) (needs sizes rows)
 
--- the other half's gate is shut, or its older head stands there
+-- the other half's gate is shut, or its older head is there
 abbrev pub HasOlder : ℕ → Option HalfHead → List ℕ → Type 0
 HasOlder at None contents = get_or contents at 0 ≢ open_gate
 HasOlder at (Some head) contents = part at slot_size contents ≡ half_head_slot head
@@ -94,7 +94,7 @@ pub record Matches (sizes : Sizes) (f : Framing) (rows : List (Row (List ℕ)))
   pub other : HasOlder (half_at sizes (other_half f.counting)) f.older contents
   pub records : AllByRecursion (HoldsRow sizes (drop (roots_at sizes) contents)) rows
 
--- ---- what is guarded: nothing else in the contents has a part in what they frame
+-- ---- what is guarded: nothing else in the contents affects what they frame
 
 abbrev pub older_size : Option HalfHead → ℕ
 older_size None = 1
@@ -106,8 +106,8 @@ record_ranges sizes (Loader r ∷ rows) = record_ranges sizes rows
 record_ranges sizes (Class r words ∷ rows) =
     record { at = record_at sizes r.place; count = 8 * r.place.words } ∷ record_ranges sizes rows
 
--- the superblock, the half that counts, the byte behind its end, the other half's gate with its
--- head, where that is open, and the records
+-- the superblock, the half that counts, the byte after its end, the other half's gate with its head
+-- if that is open, and the records
 abbrev pub guards : Sizes → Framing → List (Row (List ℕ)) → List Range
 guards sizes f rows =
     record { at = 0; count = superblock_size }

@@ -1,4 +1,4 @@
--- What holds of the definitions themselves.
+-- Properties of the definitions themselves.
 use Rattle.std.specs.Prelude.{◌≡◌, ℕ, ◌+◌, ◌≤◌, List, [], ◌∷◌, ◌++◌, length, None}
 use Rattle.std.specs.List.{AllByRecursion}
 use Rattle.cm_pool.specs.declared.chunk.Chunk.{Chunk}
@@ -12,10 +12,10 @@ use Rattle.cm_layout.specs.Loaders.{HasOwnLoaders}
 use Rattle.cm_layout.specs.Frames.{BareRow, BareEntry, OpenHalf, IsGoodHalf, AreApart, LiveRowsKeep}
 use Rattle.cm_layout.specs.Frames.{rows_of, number_at_end, HoldsRecord, HoldsRow, Frames}
 use Rattle.cm_layout.specs.Frames.{entry_version}
-use Rattle.cm_layout.specs.Framing.{Framing, IsRight, Matches, Agree, guards, needs}
+use Rattle.cm_layout.specs.Framing.{Framing, IsRightFraming, Matches, Agree, guards, needs}
 
--- After rows and entries that keep the rules, chunks that differ share no word, and none has two
--- loaders.
+-- After rows and entries that keep the rules, chunks that differ share no word, and no chunk has
+-- two loaders.
 abbrev pub RowsAreApart : Type 0
 RowsAreApart =
     (sizes : Sizes) (h : OpenHalf) → IsGoodHalf sizes h → AreApart (classes_in (rows_of h))
@@ -27,7 +27,7 @@ RowsStayLive =
     (sizes : Sizes) (h : OpenHalf) → IsGoodHalf sizes h
     → LiveRowsKeep sizes (number_at_end h) [] (rows_of h)
 
--- One entry more that keeps the rules, or one live row more, leaves rows that keep theirs.
+-- Adding one entry that keeps the rules, or one live row, leaves rows that keep theirs.
 abbrev pub EntriesStayLive : Type 0
 EntriesStayLive =
     (sizes : Sizes) (rows : List BareRow) (n : ℕ) (e : BareEntry) → AreApart (classes_in rows)
@@ -40,19 +40,21 @@ RowsGrow =
     → FitsRow row → broken_live_rule sizes n rows row ≡ None
     → LiveRowsKeep sizes n [] (rows ++ row ∷ [])
 
--- Loaders of live rows that keep the rules differ, are of the past, and own each class.
+-- Loaders of live rows that keep the rules differ, their numbers are those of past commands, and
+-- each class belongs to one of them.
 abbrev pub LoadersAreOwn : Type 0
 LoadersAreOwn =
     (sizes : Sizes) (n : ℕ) (rows : List BareRow) → LiveRowsKeep sizes n [] rows
     → HasOwnLoaders n rows
 
--- a record stands in this place, in a whole root
+-- a record is in this place, in a whole root
 abbrev pub StandsAt : Sizes → List ℕ → Place → List ℕ → Type 0
 StandsAt sizes roots place words =
     HoldsRecord sizes roots (record { loader = 0; place = place }) words
 
--- Where the records of rows stand, and those on one chunk stand on another too, one behind another
--- from its begin, the records of the rows after that move stand: each keeps its offset.
+-- If the records of rows are in their places, and those on one chunk are on another too, one after
+-- another from its beginning, then the records of the rows after that move are in their places:
+-- each keeps its offset.
 abbrev pub MovesStand : Type 0
 MovesStand =
     (sizes : Sizes) (n : ℕ) (rows : List (Row (List ℕ))) (from to : Chunk) (roots : List ℕ)
@@ -60,18 +62,18 @@ MovesStand =
     → AllByRecursion (λ w. StandsAt sizes roots w.0 w.1) (move_writes to 0 (kept_on from rows))
     → AllByRecursion (HoldsRow sizes roots) (moved from to rows)
 
--- Contents frame at most one thing: sizes, rows with their words, and number.
+-- Contents frame at most one thing: the sizes, the rows with their words, and the number.
 abbrev pub FramesAreOne : Type 0
 FramesAreOne =
     (s t : Sizes) (contents : List ℕ) (rows more : List (Row (List ℕ))) (n m : ℕ)
     → Frames s contents rows n → Frames t contents more m
     → (s ≡ t) × ((rows ≡ more) × (n ≡ m))
 
--- Contents frame rows and a number exactly where they match a framing that is right for them.
+-- Contents frame rows and a number exactly if they match a framing that is right for them.
 pub record IsFramed (sizes : Sizes) (contents : List ℕ) (rows : List (Row (List ℕ)))
     (number : ℕ) : Type 0 where
   pub framing : Framing
-  pub right : IsRight sizes framing rows number
+  pub right : IsRightFraming sizes framing rows number
   pub matches : Matches sizes framing rows contents
 
 -- the half that counts in these contents is of the version that is written now

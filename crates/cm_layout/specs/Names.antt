@@ -6,7 +6,7 @@ use Rattle.std.specs.List.{list_all}
 abbrev pub name_room : ℕ
 name_room = 48
 
--- and how many with the slot that follows
+-- how many bytes of a name there is room for with a continuation slot
 abbrev pub long_name_room : ℕ
 long_name_room = 96
 
@@ -14,11 +14,12 @@ long_name_room = 96
 abbrev pub name_limit : ℕ
 name_limit = long_name_room
 
--- and that it has in entries of a version: the first knows no slot that follows
+-- the most bytes that a loader's name has in entries of a version: version 1 has no continuation
+-- slots
 abbrev pub limit_of : ℕ → ℕ
 limit_of version = if version == 1 then name_room else name_limit
 
--- the name goes on in the slot that follows
+-- the name continues in a continuation slot
 abbrev pub is_long : List ℕ → Bool
 is_long name = nat_lt name_room (length name)
 

@@ -1,4 +1,4 @@
--- Where the parts of a region file lie, in bytes from its beginning: the superblock, two halves of
+-- Where the parts of a region file are, in bytes from its beginning: the superblock, two halves of
 -- slots, and the roots.
 use Rattle.std.specs.Prelude.{ℕ, ◌+◌, ◌*◌}
 use Rattle.cm_pool.specs.Geometry.{Sizes}
@@ -35,7 +35,7 @@ root_size sizes = 8 * chunk_size sizes.top
 abbrev pub root_at : Sizes → ℕ → ℕ
 root_at sizes root = roots_at sizes + root * root_size sizes
 
--- a record, behind the beginning of the roots and from the file's beginning
+-- where a record begins, counted from the beginning of the roots and from the beginning of the file
 abbrev pub record_in_roots : Sizes → Place → ℕ
 record_in_roots sizes place =
     place.chunk.root * root_size sizes + 8 * (place.chunk.at + place.offset)

@@ -78,7 +78,7 @@ kept_on c (Loader r ∷ rows) = kept_on c rows
 kept_on c (Class r p ∷ rows) =
     if same_chunk r.place.chunk c then p ∷ kept_on c rows else kept_on c rows
 
--- what is kept of each class is so
+-- this holds for what is kept of each class
 abbrev pub EachClass : {P : Type 0} → (P → Type 0) → List (Row P) → Type 0
 EachClass Is [] = Unit {0}
 EachClass Is (Loader r ∷ rows) = EachClass Is rows
@@ -91,7 +91,7 @@ last_chunk u (r ∷ rows) =
     elim (last_chunk u rows)
     [ Some c ↦ Some c | None ↦ if r.loader == u then Some r.place.chunk else None ]
 
--- ---- what an entry makes of them
+-- ---- the rows after an entry
 
 -- a row of the loader of this number: its own, or one of its classes
 abbrev pub is_of : {P : Type 0} → ℕ → Row P → Bool
@@ -106,7 +106,7 @@ abbrev pub without_loaders : {P : Type 0} → List ℕ → List (Row P) → List
 without_loaders [] rows = rows
 without_loaders (u ∷ us) rows = without_loaders us (without_loader u rows)
 
--- a record on the old chunk lies on the new one, at the same offset
+-- a record on the old chunk is on the new one afterwards, at the same offset
 abbrev pub moved_row : {P : Type 0} → Chunk → Chunk → Row P → Row P
 moved_row from to (Loader r) = Loader r
 moved_row from to (Class r p) =
@@ -116,7 +116,7 @@ moved_row from to (Class r p) =
 abbrev pub moved : {P : Type 0} → Chunk → Chunk → List (Row P) → List (Row P)
 moved from to rows = map (moved_row from to) rows
 
--- what a move writes on the new chunk: each record behind the one before it, from this offset on
+-- what a move writes on the new chunk: each record after the one before it, from this offset on
 abbrev pub move_writes : Chunk → ℕ → List (List ℕ) → List (Place × List ℕ)
 move_writes to offset [] = []
 move_writes to offset (words ∷ records) =
@@ -133,7 +133,7 @@ abbrev pub rows_after_all : {P : Type 0} → List (Row P) → List (Entry P) →
 rows_after_all rows [] = rows
 rows_after_all rows (e ∷ entries) = rows_after_all (rows_after rows e) entries
 
--- ---- with something else kept of each class
+-- ---- rows with something else kept of each class
 
 abbrev pub row_with : {P Q : Type 0} → (P → Q) → Row P → Row Q
 row_with f (Loader r) = Loader r
@@ -148,6 +148,6 @@ entry_with f (Unload e) = Unload e
 entry_with f (Move e) = Move e
 entry_with f (UnloadAll e) = UnloadAll e
 
--- with nothing kept
+-- rows with nothing kept of a class
 abbrev pub bare : {P : Type 0} → List (Row P) → List (Row (Unit {0}))
 bare rows = rows_with (λ p. tt) rows

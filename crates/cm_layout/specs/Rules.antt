@@ -1,5 +1,5 @@
--- The rules that entries and live rows keep, where these rows live before them. Each rule is one on
--- rows (loaders, names, numbers, how many rows there are) or one on chunks (chunks, offsets,
+-- The rules that entries and live rows keep, given the rows that live before them. Each rule is one
+-- on rows (loaders, names, numbers, how many rows there are) or one on chunks (chunks, offsets,
 -- sizes), so that the first that is broken has a sort.
 use Rattle.std.specs.Prelude.{ℕ, ◌+◌, ◌/◌, ◌%◌, ◌==◌, Bool, true, false, not, ◌&&◌, ◌||◌, nat_lt}
 use Rattle.std.specs.Prelude.{nat_le}
@@ -12,7 +12,7 @@ use Rattle.cm_pool.specs.Geometry.{Sizes}
 use Rattle.cm_pool.specs.Chunks.{chunk_size, same_chunk}
 use Rattle.cm_layout.specs.declared.loader_row.LoaderRow.{LoaderRow}
 use Rattle.cm_layout.specs.declared.class_row.ClassRow.{ClassRow}
-use Rattle.cm_layout.specs.declared.relocation.Move.{Move}
+use Rattle.cm_layout.specs.declared.move_entry.Move.{Move}
 use Rattle.cm_layout.specs.declared.row.Row.{Row}
 use Rattle.cm_layout.specs.declared.row.Row.TheVariants.{Loader, Class}
 use Rattle.cm_layout.specs.declared.entry.Entry.{Entry}
@@ -25,14 +25,14 @@ use Rattle.cm_layout.specs.Rows.{classes_in, chunks_in, used_words, last_chunk}
 
 -- ---- rules on rows
 
--- half of a half's slots are for live rows, which may take that many
+-- live rows may take half of a half's slots
 abbrev pub row_limit : Sizes → ℕ
 row_limit sizes = sizes.slots / 2
 
 abbrev pub has_room : {P : Type 0} → Sizes → List (Row P) → Row P → Bool
 has_room sizes rows row = nat_le (slots_of_rows rows + slots_of_row row) (row_limit sizes)
 
--- beside rows that take so many slots there is no room for what needs so many more
+-- if rows take `taken` slots, there is no room for `need` more
 abbrev pub is_too_much : Sizes → ℕ → ℕ → Bool
 is_too_much sizes taken need = nat_lt (row_limit sizes) (taken + need)
 
@@ -43,7 +43,7 @@ is_live u rows = is_some (name_of u rows)
 abbrev pub are_live : {P : Type 0} → List ℕ → List (Row P) → Bool
 are_live us rows = list_all (λ u. is_live u rows) us
 
--- no number stands there twice
+-- no number occurs twice
 abbrev pub differ : List ℕ → Bool
 differ [] = true
 differ (u ∷ us) = list_all (λ v. not (u == v)) us && differ us
@@ -66,7 +66,7 @@ abbrev pub meets : Chunk → Chunk → Bool
 meets a b = (a.root == b.root)
     && nat_lt (max a.at b.at) (min (a.at + chunk_size a.order) (b.at + chunk_size b.order))
 
--- the chunk can be had: the region has it, and it meets no chunk of any row
+-- the chunk is free: it meets no chunk of any row
 abbrev pub is_unused : {P : Type 0} → Chunk → List (Row P) → Bool
 is_unused c rows = not (list_any (meets c) (chunks_in rows))
 
@@ -74,8 +74,8 @@ abbrev pub is_last_chunk : {P : Type 0} → ℕ → Chunk → List (Row P) → B
 is_last_chunk u c rows =
     option_map_or (λ last. same_chunk last c) (last_chunk u (classes_in rows)) false
 
--- a record lies behind the last one in its loader's last chunk, or first in a chunk that meets none
--- in use
+-- a record follows the last one in its loader's last chunk, or is the first in a chunk that meets
+-- none in use
 abbrev pub has_place : {P : Type 0} → List (Row P) → ClassRow → Bool
 has_place rows r =
     (is_last_chunk r.loader r.place.chunk rows && (r.place.offset == used_words r.place.chunk rows))
@@ -98,7 +98,7 @@ abbrev pub broken_of : Bool → Bool → Option EntryRule
 broken_of on_rows on_chunks =
     if on_rows then (if on_chunks then None else Some OnChunks) else Some OnRows
 
--- by an entry of a group, which has this number
+-- the rule that an entry of a group breaks, if the entry has this number
 abbrev pub broken_rule : {P : Type 0} → Sizes → List (Row P) → ℕ → Entry P → Option EntryRule
 broken_rule sizes rows number (entry.Live (Loader r)) =
     if (r.number == number) && is_new_loader sizes rows r then None else Some OnRows
@@ -110,8 +110,8 @@ broken_rule sizes rows number (entry.Move e) =
 broken_rule sizes rows number (entry.UnloadAll e) =
     if differ e.loaders && are_live e.loaders rows then None else Some OnRows
 
--- by a live row behind a half's head: a loader's number is one of the past, and above those before
--- it
+-- the rule that a live row after a half's head breaks: a loader's number is one of a past command,
+-- and above those before it
 abbrev pub broken_live_rule : {P : Type 0} → Sizes → ℕ → List (Row P) → Row P → Option EntryRule
 broken_live_rule sizes base rows (Loader r) =
     if nat_le 1 r.number && nat_le r.number base

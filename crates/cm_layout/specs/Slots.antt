@@ -1,6 +1,6 @@
 -- The slots of a region file: 64 bytes each, numbers little-endian. Byte 0 of a head is its gate,
--- open exactly where it is A5; byte 0 of any other slot is 00. Byte 1 says what the slot is. All
--- bytes that aren't named are 00.
+-- open exactly if it is A5; byte 0 of any other slot is 00. Byte 1 says what the slot is. All bytes
+-- that aren't named are 00.
 use Rattle.std.specs.Prelude.{ℕ, ◌<◌, ◌≤◌, ◌-◌, ◌^◌, if◌then◌else◌, List, [], ◌∷◌, ◌++◌, length}
 use Rattle.std.specs.Prelude.{take, drop}
 use Rattle.std.specs.Int.{w16, w32, w64, to_le_bytes}
@@ -11,7 +11,7 @@ use Rattle.cm_layout.specs.declared.heads.GroupHead.{GroupHead}
 use Rattle.cm_layout.specs.declared.loader_row.LoaderRow.{LoaderRow}
 use Rattle.cm_layout.specs.declared.class_row.ClassRow.{ClassRow}
 use Rattle.cm_layout.specs.declared.unload.Unload.{Unload}
-use Rattle.cm_layout.specs.declared.relocation.Move.{Move}
+use Rattle.cm_layout.specs.declared.move_entry.Move.{Move}
 use Rattle.cm_layout.specs.declared.unload_all.UnloadAll.{UnloadAll}
 use Rattle.cm_layout.specs.declared.row.Row.{Row}
 use Rattle.cm_layout.specs.declared.row.Row.TheVariants.{Loader, Class}
@@ -27,13 +27,13 @@ open_gate = 165
 
 -- ---- heads
 
--- a half's head behind its gate: kind, entry version, live rows, epoch, base
+-- a half's head after its gate: kind, entry version, slots of its live rows, epoch, base
 abbrev pub half_head_rest : HalfHead → List ℕ
 half_head_rest h =
     (1 ∷ to_le_bytes w16 h.version) ++ to_le_bytes w32 h.live ++ to_le_bytes w64 h.epoch
     ++ to_le_bytes w64 h.base ++ zeros 40
 
--- a group's head behind its gate: kind, number of entries, the first entry's number
+-- a group's head after its gate: kind, slots of its entries, the first entry's number
 abbrev pub group_head_rest : GroupHead → List ℕ
 group_head_rest h = (2 ∷ to_le_bytes w16 h.count) ++ zeros 4 ++ to_le_bytes w64 h.first ++ zeros 48
 
@@ -46,7 +46,7 @@ group_head_slot h = open_gate ∷ group_head_rest h
 
 -- ---- rows and entries
 
--- a name, and zeros for the bytes that it could have more
+-- a name, filled up with zeros to the room of two slots
 abbrev pub padded : List ℕ → List ℕ
 padded name = name ++ zeros (long_name_room - length name)
 
@@ -56,11 +56,11 @@ loader_slot r =
     (0 ∷ 17 ∷ length r.name ∷ zeros 5) ++ to_le_bytes w64 r.number
     ++ take name_room (padded r.name)
 
--- the rest of a longer name, in the slot behind its loader's
+-- a continuation slot: the end of a longer name
 abbrev pub rest_slot : List ℕ → List ℕ
 rest_slot name = (0 ∷ 22 ∷ zeros 14) ++ drop name_room (padded name)
 
--- a loader with the rest of its name, where that is a long one
+-- a loader, with its continuation slot if the name is a long one
 abbrev pub loader_slots : LoaderRow → List ℕ
 loader_slots r = loader_slot r ++ (if is_long r.name then rest_slot r.name else [])
 
@@ -68,7 +68,8 @@ loader_slots r = loader_slot r ++ (if is_long r.name then rest_slot r.name else 
 abbrev pub chunk_bytes : Chunk → List ℕ
 chunk_bytes c = to_le_bytes w32 c.root ++ to_le_bytes w32 c.order ++ to_le_bytes w32 c.at
 
--- a class: its record's words, its loader's number, its chunk, where in the chunk its record begins
+-- a class: its record's words, its loader's number, its chunk, the offset of its record in the
+-- chunk
 abbrev pub class_slot : ClassRow → List ℕ
 class_slot r =
     (0 ∷ 18 ∷ zeros 2) ++ to_le_bytes w32 r.place.words ++ to_le_bytes w64 r.loader
@@ -88,8 +89,7 @@ move_slot e =
     ++ to_le_bytes w32 e.to.root ++ to_le_bytes w32 e.to.order ++ to_le_bytes w32 e.to.at
     ++ zeros 24
 
--- loaders that are unloaded at once: how many, and their numbers, 0 in the place of those that
--- there could be more
+-- loaders that are unloaded at once: how many, and their numbers, filled up with zeros
 abbrev pub unload_all_slot : UnloadAll → List ℕ
 unload_all_slot e =
     (0 ∷ 21 ∷ length e.loaders ∷ zeros 5)
@@ -155,7 +155,7 @@ FitsEntry (entry.Unload e) = FitsUnload e
 FitsEntry (entry.Move e) = FitsMove e
 FitsEntry (entry.UnloadAll e) = FitsUnloadAll e
 
--- ---- what entries of a version may be: the first version has no names that need two slots
+-- ---- what entries of a version may be: version 1 has no names that need two slots
 
 abbrev pub RowOfVersion : {P : Type 0} → ℕ → Row P → Type 0
 RowOfVersion version (Loader r) = length r.name ≤ limit_of version

@@ -20,7 +20,7 @@ superblock_front g =
 abbrev pub front_size : ℕ
 front_size = 24
 
--- between the front and the gate, which is the last byte
+-- how many zeros there are between the front and the gate, which is the last byte
 abbrev pub superblock_zeros : ℕ
 superblock_zeros = superblock_size - front_size - 1
 

@@ -4,6 +4,6 @@ use Rattle.std.specs.Prelude.{ℕ, List, replicate}
 abbrev pub zeros : ℕ → List ℕ
 zeros n = replicate n 0
 
--- the same, by a name for long rows, which nobody wants to see written out
+-- the same as `zeros`, under a name that keeps long lists of zeros folded
 unfoldable pub blank : ℕ → List ℕ
 blank n = zeros n

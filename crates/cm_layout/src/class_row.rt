@@ -8,7 +8,7 @@ use crate::slot::{KIND_AT, SLOT_BYTES, is_same_slot};
 use byteorder::{ByteOrder, LittleEndian};
 use cm_pool::Place;
 
-// Where a class's slot has its fields.
+// Where the fields of a class's slot are.
 const WORDS_AT: usize = 4;
 
 const LOADER_AT: usize = 8;
@@ -17,7 +17,7 @@ const CHUNK_AT: usize = 16;
 
 const OFFSET_AT: usize = 28;
 
-/// A live class: whose it is, and where its record lies.
+/// A live class: the loader it belongs to, and the place of its record.
 #[derive(Clone, Copy, Debug, PartialEq, Eq)]
 pub struct ClassRow {
     /// The loader's number.
@@ -41,7 +41,7 @@ impl ClassRow {
         slot
     }
 
-    /// The row that a slot spells, if it spells one of a class.
+    /// The row that a slot spells, if it spells a class's row.
     pub fn decode(slot: &[u8; SLOT_BYTES]) -> Option<ClassRow>
         ensures found { IfSome result (λ row. slot.now ≡ class_slot row) }
         ensures only { (row : _) → FitsClass row → slot.now ≡ class_slot row → result ≡ Some row }
@@ -54,8 +54,7 @@ impl ClassRow {
         }
     }
 
-    // What stands where a class's slot has its fields. Only writing it again tells whether it is
-    // one.
+    // The fields found in a class's slot. Only encoding the row again shows whether it is one.
     fn at_its_places(slot: &[u8; SLOT_BYTES]) -> ClassRow
         ensures { (row : _) → FitsClass row → slot.now ≡ class_slot row → result ≡ row }
     {

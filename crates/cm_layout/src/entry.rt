@@ -5,7 +5,7 @@ ghost use Rattle.cm_layout.specs.Offsets.{slot_size};
 
 use crate::class_row::ClassRow;
 use crate::loader_row::LoaderRow;
-use crate::relocation::Move;
+use crate::move_entry::Move;
 use crate::row::Row;
 use crate::slot::front_slot;
 use crate::slots::Slots;
@@ -18,7 +18,7 @@ pub const GROUP_SLOTS: usize = 64;
 /// What one command leaves in the journal.
 #[derive(Debug, Drop)]
 pub enum Entry<P> {
-    /// A loader or a class lives from now on.
+    /// A loader or a class lives from here on.
     Live(Row<P>),
     Unload(Unload),
     Move(Move),
@@ -52,7 +52,7 @@ impl<P> Entry<P> {
         }
     }
 
-    /// The slots of this entry. What is kept of a class beside its place has no part in them.
+    /// The slots of this entry. They hold nothing of a class but its place.
     pub fn encode(&self) -> Slots
         ensures { result ≡ entry_slots self.now }
     {
@@ -69,8 +69,8 @@ impl Entry<()> {
     ghost use Rattle.cm_layout.specs.Slots.{entry_slots, FitsEntry, EntryOfVersion};
     ghost use Rattle.cm_layout.specs.Rows.{slots_of};
 
-    /// The entry that these slots begin with, if they do with one of this version. It takes as many
-    /// of them as [`slots`](Entry::slots) says.
+    /// The entry that these slots begin with, if they begin with one of this version. It takes as
+    /// many of them as [`slots`](Entry::slots) says.
     pub fn decode(version: u16, slots: &[u8]) -> Option<Entry<()>>
         requires { slot_size ≤ length slots.now }
         ensures found { IfSome result (λ entry.

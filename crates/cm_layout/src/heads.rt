@@ -6,7 +6,7 @@ use crate::kind;
 use crate::slot::{GATE_AT, KIND_AT, OPEN_GATE, SLOT_BYTES, is_same_slot};
 use byteorder::{ByteOrder, LittleEndian};
 
-// Where the head of a half has its fields.
+// Where the fields of a half's head are.
 const VERSION_AT: usize = 2;
 
 const LIVE_AT: usize = 4;
@@ -15,7 +15,7 @@ const EPOCH_AT: usize = 8;
 
 const BASE_AT: usize = 16;
 
-// Where the head of a group has its fields.
+// Where the fields of a group's head are.
 const COUNT_AT: usize = 2;
 
 const FIRST_AT: usize = 8;
@@ -23,7 +23,7 @@ const FIRST_AT: usize = 8;
 /// The version of entries that is written.
 pub const ENTRY_VERSION: u16 = 2;
 
-/// The oldest version of entries that is read. A file of it is moved over when it is opened.
+/// The oldest version of entries that is read. A file of it is upgraded when it is opened.
 pub const OLDEST_VERSION: u16 = 1;
 
 /// The last number that a command may have.
@@ -34,18 +34,18 @@ pub const LAST_NUMBER: u64 = 1 << 63;
 pub struct HalfHead {
     /// The version of the half's entries.
     pub version: u16,
-    /// How many slots the live rows behind it take.
+    /// How many slots the live rows after it take.
     pub live: u32,
-    /// The open half of greater epoch is the one that counts.
+    /// Of two open halves, the one with the greater epoch counts.
     pub epoch: u64,
-    /// The number of the last command that the live rows hold.
+    /// The number of the last command whose effect the live rows hold.
     pub base: u64,
 }
 
 /// The head of a group of entries.
 #[derive(Clone, Copy, Debug, PartialEq, Eq)]
 pub struct GroupHead {
-    /// How many slots the entries behind it take.
+    /// How many slots the entries after it take.
     pub count: u16,
     /// The number of its first entry.
     pub first: u64,
@@ -68,7 +68,7 @@ impl HalfHead {
         slot
     }
 
-    /// The head that a slot with an open gate spells, if it does.
+    /// The head that a slot with an open gate spells, if it spells one.
     pub fn decode(slot: &[u8; SLOT_BYTES]) -> Option<HalfHead>
         ensures found { IfSome result (λ h. slot.now ≡ half_head_slot h) }
         ensures only { (h : _) → FitsHalfHead h → slot.now ≡ half_head_slot h → result ≡ Some h }
@@ -81,7 +81,7 @@ impl HalfHead {
         }
     }
 
-    // What stands where a head has its fields. Only writing it again tells whether it is one.
+    // The fields found in a head's slot. Only encoding the head again shows whether it is one.
     fn at_its_places(slot: &[u8; SLOT_BYTES]) -> HalfHead
         ensures { (h : _) → FitsHalfHead h → slot.now ≡ half_head_slot h → result ≡ h }
     {
@@ -109,7 +109,7 @@ impl GroupHead {
         slot
     }
 
-    /// The head that a slot with an open gate spells, if it does.
+    /// The head that a slot with an open gate spells, if it spells one.
     pub fn decode(slot: &[u8; SLOT_BYTES]) -> Option<GroupHead>
         ensures found { IfSome result (λ h. slot.now ≡ group_head_slot h) }
         ensures only { (h : _) → FitsGroupHead h → slot.now ≡ group_head_slot h → result ≡ Some h }
@@ -122,7 +122,7 @@ impl GroupHead {
         }
     }
 
-    // What stands where a head has its fields. Only writing it again tells whether it is one.
+    // The fields found in a head's slot. Only encoding the head again shows whether it is one.
     fn at_its_places(slot: &[u8; SLOT_BYTES]) -> GroupHead
         ensures { (h : _) → FitsGroupHead h → slot.now ≡ group_head_slot h → result ≡ h }
     {

@@ -1,4 +1,4 @@
-//! The region file: where its parts lie, its slots, its rows, and what contents frame them.
+//! The region file: where its parts are, its slots, its rows, and which contents frame them.
 #![tactic(auto)]
 
 mod chunk_field;
@@ -11,9 +11,9 @@ mod kind;
 mod laws;
 mod loader_numbers;
 mod loader_row;
+mod move_entry;
 mod name;
 mod offsets;
-mod relocation;
 mod row;
 mod slot;
 mod slots;
@@ -33,11 +33,11 @@ pub use laws::{
 };
 pub use loader_numbers::{LoaderNumbers, UNLOAD_LIMIT};
 pub use loader_row::LoaderRow;
+pub use move_entry::Move;
 pub use name::{LONG_NAME_ROOM, NAME_LIMIT, NAME_ROOM, SlotName, is_loader_name, slots_of_name};
 pub use offsets::{
     half_at, half_bytes, record_at, root_at, root_bytes, roots_at, row_limit, slot_at,
 };
-pub use relocation::Move;
 pub use row::Row;
 pub use slot::{OPEN_GATE, SLOT_BYTES, SUPERBLOCK_BYTES, front_slot, is_rest};
 pub use slots::Slots;

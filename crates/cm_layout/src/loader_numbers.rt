@@ -1,4 +1,4 @@
-//! The numbers of the loaders that go at once.
+//! The numbers of the loaders that are unloaded at once.
 
 ghost use Rattle.std.specs.Prelude.{◌≡◌, ◌≤◌, ◌-◌, ◌↔◌, ◌++◌, length, IsSome, IfSome};
 ghost use Rattle.cm_layout.specs.Names.{unload_limit};
@@ -44,7 +44,7 @@ impl Model for LoaderNumbers {
 }
 
 impl LoaderNumbers {
-    /// These numbers, or `None` where there are none or more than seven.
+    /// These numbers, or `None` if there are none or more than seven.
     pub fn new(numbers: &[u64]) -> Option<LoaderNumbers>
         ensures fits { IsSome result
             ↔ ((1 ≤ length numbers.now) × (length numbers.now ≤ unload_limit)) }
@@ -59,12 +59,12 @@ impl LoaderNumbers {
         Some(LoaderNumbers { numbers: kept, len })
     }
 
-    /// Does nothing: its clauses say how many numbers there are.
+    /// Does nothing: its clauses say how many numbers there may be.
     pub fn invariant_holds(&self)
         ensures some { 1 ≤ length self.now }
         ensures few { length self.now ≤ unload_limit }
     {
-        let _read = self.len; // the read of a field brings the invariant
+        let _read = self.len; // reading a field provides the invariant
     }
 
     /// The numbers.
@@ -76,7 +76,7 @@ impl LoaderNumbers {
         &self.numbers[..self.len]
     }
 
-    /// The numbers, and zeros in the place of those that there could be more.
+    /// The numbers, filled up with zeros to `UNLOAD_LIMIT`.
     pub(crate) fn padded(&self) -> [u64; UNLOAD_LIMIT]
         ensures { result ≡ self.now ++ zeros (unload_limit - length self.now) }
     {

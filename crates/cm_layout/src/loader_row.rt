@@ -12,7 +12,7 @@ use crate::slot::{KIND_AT, SLOT_BYTES};
 use crate::slots::Slots;
 use byteorder::{ByteOrder, LittleEndian};
 
-// Where a loader's slot has its fields. The slot behind it has the rest of the name there too.
+// Where the fields of a loader's slot are. In a continuation slot the name is at the same place.
 const LENGTH_AT: usize = 2;
 
 const NUMBER_AT: usize = 8;
@@ -22,7 +22,8 @@ const NAME_AT: usize = 16;
 /// A live loader.
 #[derive(Clone, Copy, Debug)]
 pub struct LoaderRow {
-    /// The number of the command that made it, by which all else in the journal names it.
+    /// The number of the command that made it, by which everything else in the journal refers to
+    /// it.
     pub number: u64,
     pub name: SlotName,
 }
@@ -31,7 +32,7 @@ impl LoaderRow {
     ghost use Rattle.cm_layout.specs.Slots.{loader_slot, rest_slot as rest_slot_of, loader_slots};
     ghost use Rattle.cm_layout.specs.Slots.{FitsLoader};
 
-    /// The slots of this row: two where its name is a long one.
+    /// The slots of this row: two if its name is a long one.
     pub fn encode(&self) -> Slots
         ensures { result ≡ loader_slots self.now }
     {
@@ -43,7 +44,7 @@ impl LoaderRow {
         }
     }
 
-    // The first slot, with the name as far as there is room.
+    // The first slot, with as much of the name as it has room for.
     fn first_slot(&self) -> [u8; SLOT_BYTES]
         ensures { result ≡ loader_slot self.now }
     {
@@ -55,7 +56,7 @@ impl LoaderRow {
         slot
     }
 
-    // The slot behind it, with the rest of the name.
+    // The continuation slot, with the end of the name.
     fn rest_slot(&self) -> [u8; SLOT_BYTES]
         ensures { result ≡ rest_slot_of self.now.name }
     {
@@ -65,8 +66,8 @@ impl LoaderRow {
         slot
     }
 
-    /// The row that these slots begin with, if they do with one of a loader, as entries of this
-    /// version have it: its slot, and the rest of a longer name in the one behind it.
+    /// The row that these slots begin with, if they begin with a loader's row as entries of this
+    /// version have it: its slot, and for a longer name its continuation slot.
     pub fn decode(version: u16, slots: &[u8]) -> Option<LoaderRow>
         requires { slot_size ≤ length slots.now }
         ensures found { IfSome result (λ row.
@@ -83,8 +84,7 @@ impl LoaderRow {
         }
     }
 
-    // What stands where a loader's slots have its fields. Only writing it again tells whether it is
-    // one.
+    // The fields found in a loader's slots. Only encoding the row again shows whether it is one.
     fn at_its_places(version: u16, slots: &[u8]) -> Option<LoaderRow>
         requires { slot_size ≤ length slots.now }
         ensures version { IfSome result (λ row. length row.name ≤ limit_of version) }
@@ -103,7 +103,7 @@ impl LoaderRow {
     }
 }
 
-// The bytes where a loader's slots have room for its name: zeros for the second slot where there is
+// The bytes where a loader's slots have room for its name; zeros for the second slot if there is
 // none.
 fn name_room_in(slots: &[u8]) -> [u8; LONG_NAME_ROOM]
     requires { slot_size ≤ length slots.now }

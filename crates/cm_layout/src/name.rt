@@ -52,7 +52,7 @@ impl Model for SlotName {
 }
 
 impl SlotName {
-    /// The name of these bytes, or `None` where two slots have no room for them.
+    /// The name of these bytes, or `None` if two slots have no room for them.
     pub fn new(bytes: &[u8]) -> Option<SlotName>
         ensures fits { IsSome result ↔ (length bytes.now ≤ long_name_room) }
         ensures value { IfSome result (λ n. n ≡ bytes.now) }
@@ -76,7 +76,7 @@ impl SlotName {
         &self.bytes[..self.len]
     }
 
-    /// Whether the name goes on in the slot behind its loader's.
+    /// Whether the name continues in the slot after its loader's.
     pub fn is_long(&self) -> bool
         ensures { result ≡ is_long_name self.now }
     {
@@ -90,7 +90,7 @@ impl SlotName {
         slots_of_name(self.as_bytes())
     }
 
-    /// As much of the name as its loader's own slot has room for, and zeros behind a shorter one.
+    /// As much of the name as its loader's own slot has room for, and zeros after a shorter one.
     pub(crate) fn front(&self) -> &[u8]
         ensures bytes { result.now ≡ take name_room (padded self.now) }
         ensures count { length result.now ≡ name_room }
@@ -98,7 +98,7 @@ impl SlotName {
         &self.bytes[..NAME_ROOM]
     }
 
-    /// The rest of the name, and zeros behind it, as the slot that follows has room for.
+    /// The part of the name in the continuation slot, with zeros after it up to the room there.
     pub(crate) fn rest(&self) -> &[u8]
         ensures bytes { result.now ≡ drop name_room (padded self.now) }
         ensures count { length result.now ≡ long_name_room - name_room }
@@ -107,16 +107,16 @@ impl SlotName {
     }
 }
 
-/// How many slots a loader of this name takes: a name that its own slot has no room for goes on in
-/// one more.
+/// How many slots a loader of this name takes: a name that its own slot has no room for continues
+/// in one more.
 pub fn slots_of_name(name: &[u8]) -> usize
     ensures { result ≡ slots_of_name name.now }
 {
     if name.len() > NAME_ROOM { 2 } else { 1 }
 }
 
-/// How many bytes a loader's name has at most in entries of this version: the first knows no slot
-/// that follows.
+/// How many bytes a loader's name has at most in entries of this version: version 1 has no
+/// continuation slots.
 pub(crate) fn name_limit_of(version: u16) -> usize
     ensures { result ≡ limit_of version }
 {

@@ -1,4 +1,4 @@
-//! Where the parts of a region file lie.
+//! Where the parts of a region file are.
 
 ghost use Rattle.std.specs.Prelude.{◌≡◌};
 ghost use Rattle.cm_layout.specs.Offsets.{half_at as half_at_of, slot_at as slot_at_of};
@@ -17,7 +17,7 @@ pub fn half_bytes(geometry: Geometry) -> u64
     SLOT_BYTES as u64 * u64::from(geometry.slots())
 }
 
-/// Where a half of the journal begins, in bytes.
+/// Where a half of the journal begins, as a byte offset in the file.
 pub fn half_at(geometry: Geometry, half: Half) -> u64
     ensures { result ≡ half_at_of geometry half }
 {
@@ -27,7 +27,7 @@ pub fn half_at(geometry: Geometry, half: Half) -> u64
     }
 }
 
-/// Where a slot of a half begins, in bytes. A half's head is slot 0.
+/// Where a slot of a half begins, as a byte offset in the file. A half's head is slot 0.
 pub fn slot_at(geometry: Geometry, half: Half, slot: u32) -> u64
     ensures { result ≡ slot_at_of geometry half slot }
 {
@@ -41,7 +41,7 @@ pub fn row_limit(geometry: Geometry) -> usize
     geometry.slots() as usize / 2
 }
 
-/// Where the roots begin, in bytes.
+/// Where the roots begin, as a byte offset in the file.
 pub fn roots_at(geometry: Geometry) -> u64
     ensures { result ≡ roots_at_of geometry }
 {
@@ -55,14 +55,14 @@ pub fn root_bytes(geometry: Geometry) -> u64
     1024 << geometry.top()
 }
 
-/// Where a root begins, in bytes.
+/// Where a root begins, as a byte offset in the file.
 pub fn root_at(geometry: Geometry, root: u32) -> u64
     ensures { result ≡ root_at_of geometry root }
 {
     roots_at(geometry) + u64::from(root) * root_bytes(geometry)
 }
 
-/// Where the record at a place begins, in bytes.
+/// Where the record at a place begins, as a byte offset in the file.
 pub fn record_at(geometry: Geometry, place: Place) -> u64
     ensures { result ≡ record_at_of geometry place }
 {

@@ -39,7 +39,7 @@ impl<P> Row<P> {
         }
     }
 
-    /// The slots of this row. What is kept of a class beside its place has no part in them.
+    /// The slots of this row. They hold nothing of a class but its place.
     pub fn encode(&self) -> Slots
         ensures { result ≡ row_slots self.now }
     {

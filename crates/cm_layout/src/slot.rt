@@ -5,7 +5,7 @@ ghost use Rattle.cm_layout.specs.Offsets.{slot_size};
 
 use crate::kind;
 
-/// The byte that opens a gate. Any other byte keeps it shut.
+/// The byte that opens a gate. Any other byte leaves it shut.
 pub const OPEN_GATE: u8 = 0xA5;
 
 /// The length of a slot in bytes.
@@ -20,7 +20,7 @@ pub(crate) const KIND_AT: usize = 1;
 /// The length of a superblock in bytes. Its last one is its gate.
 pub const SUPERBLOCK_BYTES: usize = 4096;
 
-/// The first of slots that stand one behind another.
+/// The first of slots that follow one another.
 pub fn front_slot(slots: &[u8]) -> &[u8; SLOT_BYTES]
     requires { slot_size ≤ length slots.now }
     ensures { result.now ≡ take slot_size slots.now }
@@ -31,7 +31,7 @@ pub fn front_slot(slots: &[u8]) -> &[u8; SLOT_BYTES]
     }
 }
 
-/// Whether a slot goes on with the name of the loader before it.
+/// Whether a slot is a continuation slot: it holds the end of the name of the loader before it.
 pub fn is_rest(slot: &[u8; SLOT_BYTES]) -> bool
     ensures { result ≡ (get_or slot.now 1 0 == 22) }
 {

@@ -1,4 +1,4 @@
-//! The slots that a row or an entry takes, one behind another.
+//! The slots that a row or an entry takes, one after another.
 
 ghost use Rattle.std.specs.Prelude.{◌≡◌, ◌++◌};
 

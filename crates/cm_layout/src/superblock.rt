@@ -1,4 +1,4 @@
-//! The superblock: what a region file begins with, and of what sizes it is.
+//! The superblock: what a region file begins with, and which sizes it has.
 
 ghost use Rattle.std.specs.Prelude.{◌≡◌, ◌↔◌, ◌++◌, ◌∷◌, [], List, IfOk, IfSome, IsSomeAnd, IsTrue};
 ghost use Rattle.std.specs.List.{All};
@@ -13,13 +13,13 @@ use byteorder::{ByteOrder, LittleEndian};
 use cm_pool::Geometry;
 use std::alloc::{AllocError, Global};
 
-/// How many bytes of a superblock aren't zeros, but for the gate.
+/// How many bytes a superblock has before its zeros.
 pub const FRONT_BYTES: usize = 24;
 
 /// The version of region files.
 const VERSION: u32 = 1;
 
-// Where a superblock has its version and its sizes, behind its text.
+// Where a superblock has its version and its sizes, after its text.
 const VERSION_AT: usize = 8;
 
 const TOP_AT: usize = 12;
@@ -48,8 +48,8 @@ impl Superblock {
         Ok(bytes)
     }
 
-    /// The superblock that these bytes spell, if they spell one: no byte more or less, and sizes
-    /// within their limits.
+    /// The superblock that these bytes spell, if they spell one: 4,096 bytes, with sizes within
+    /// their limits.
     pub fn decode(block: &[u8]) -> Option<Superblock>
         ensures found { IfSome result (λ s. block.now ≡ superblock_bytes s.geometry) }
         ensures only { (sizes : Sizes) → IsGeometry sizes → block.now ≡ superblock_bytes sizes
@@ -65,8 +65,8 @@ impl Superblock {
     }
 }
 
-// What stands where a superblock has its sizes, where these are within their limits. Only writing
-// it again tells whether it is one.
+// The sizes found in a superblock, if they are within their limits. Only encoding it again shows
+// whether it is one.
 fn sizes_at_their_places(front: &[u8; FRONT_BYTES]) -> Option<Geometry>
     ensures { (sizes : Sizes) → IsGeometry sizes → front.now ≡ superblock_front sizes
         → IsSomeAnd result (λ g. g ≡ sizes) }
@@ -85,7 +85,7 @@ fn is_front(front: &[u8; FRONT_BYTES], geometry: Geometry) -> bool
     front.as_slice() == encode_front(geometry).as_slice()
 }
 
-// Whether the bytes behind a superblock's sizes are zeros and an open gate.
+// Whether the bytes after a superblock's sizes are zeros and an open gate.
 fn is_closing(rest: &[u8]) -> bool
     ensures { IsTrue result ↔ (rest.now ≡ blank superblock_zeros ++ open_gate ∷ []) }
 {

@@ -1,4 +1,4 @@
-//! A loader is unloaded, and the slot that says so.
+//! Unloading a loader, and the slot that says so.
 
 ghost use Rattle.std.specs.Prelude.{◌≡◌, IfSome, Some};
 
@@ -6,10 +6,10 @@ use crate::kind;
 use crate::slot::{KIND_AT, SLOT_BYTES, is_same_slot};
 use byteorder::{ByteOrder, LittleEndian};
 
-// Where the slot of an unloading has its field.
+// Where the field of an unload's slot is.
 const LOADER_AT: usize = 8;
 
-/// A loader is unloaded: its rows go.
+/// A loader is unloaded: its rows are removed.
 #[derive(Clone, Copy, Debug, PartialEq, Eq)]
 pub struct Unload {
     /// The loader's number.
@@ -43,7 +43,7 @@ impl Unload {
         }
     }
 
-    // What stands where such a slot has its field. Only writing it again tells whether it is one.
+    // The field found in an unload's slot. Only encoding the entry again shows whether it is one.
     fn at_its_places(slot: &[u8; SLOT_BYTES]) -> Unload
         ensures { (entry : _) → FitsUnload entry → slot.now ≡ unload_slot entry → result ≡ entry }
     {

@@ -1,4 +1,4 @@
-//! Several loaders are unloaded at once, and the slot that says so.
+//! Unloading several loaders at once, and the slot that says so.
 
 ghost use Rattle.std.specs.Prelude.{◌≡◌, IfSome, Some};
 
@@ -7,15 +7,15 @@ use crate::loader_numbers::{LoaderNumbers, UNLOAD_LIMIT};
 use crate::slot::{KIND_AT, SLOT_BYTES, is_same_slot};
 use byteorder::{ByteOrder, LittleEndian};
 
-// Where the slot of such an entry has its fields.
+// Where the fields of such an entry's slot are.
 const COUNT_AT: usize = 2;
 
 const LOADERS_AT: usize = 8;
 
-/// Several loaders are unloaded at once: the rows of all of them go.
+/// Several loaders are unloaded at once: the rows of all of them are removed.
 #[derive(Clone, Copy, Debug)]
 pub struct UnloadAll {
-    /// The loaders' numbers, in the order in which they were asked for.
+    /// The loaders' numbers, in the order in which they were requested.
     pub loaders: LoaderNumbers,
 }
 
@@ -47,7 +47,7 @@ impl UnloadAll {
         }
     }
 
-    // What stands where such a slot has its fields. Only writing it again tells whether it is one.
+    // The fields found in such a slot. Only encoding the entry again shows whether it is one.
     fn at_its_places(slot: &[u8; SLOT_BYTES]) -> Option<UnloadAll>
         ensures { (entry : _) → FitsUnloadAll entry → slot.now ≡ unload_all_slot entry
             → result ≡ Some entry }

@@ -25,7 +25,7 @@ digit_value-small d v h = grind (arith, nat_tests)
 
 -- ---- escaping, then reading
 
--- a plain byte, and one that isn't, at the front of a spelling
+-- a plain byte, and one that isn't, at the start of a spelling
 read_plain : (b : ℕ) (rest : List ℕ) → is_plain b ≡ true
     → spelled_from Any (b ∷ rest) ≡ option_map (λ n. b ∷ n) (spelled_from Any rest)
 read_plain b rest p =
@@ -71,14 +71,14 @@ unescaping_undoes (b ∷ name) h =
 
 -- ---- what is read has one spelling
 
--- a byte that isn't plain, and what spells the rest of a name behind it
+-- a byte that isn't plain, and what spells the remainder of a name after it
 record IsEscape (name : List ℕ) : Type 0 where
   pub byte : ℕ
   pub rest : List ℕ
   pub name_is : name ≡ byte ∷ rest
   pub special : is_plain byte ≡ false
 
--- what a text is in upper case, which spells a name from a state on
+-- the upper-case form of a text, which spells a name from a state on
 Spells : Awaited → List ℕ → List ℕ → Type 0
 Spells Any text name = upper_from 0 text ≡ escaped name
 Spells High text name =
@@ -88,13 +88,13 @@ Spells (Low high) text name =
     (x : IsEscape name) × (x.byte / 16 ≡ high)
     × (upper_from 1 text ≡ upper_digit (x.byte % 16) ∷ escaped x.rest)
 
--- what was mapped was there
+-- the result of a map comes from a value
 unmapped : (b : ℕ) (o : Option (List ℕ)) (name : List ℕ) → option_map (λ n. b ∷ n) o ≡ Some name
     → (rest : List ℕ) × (o ≡ Some rest) × (name ≡ b ∷ rest)
 unmapped b None name e = absurd (cc)
 unmapped b (Some rest) name e = let same : name ≡ b ∷ rest = cc in (rest, refl, same)
 
--- what comes of a digit
+-- the result of a digit
 digit_of : {X : Type 0} (f : ℕ → Option X) (o : Option ℕ) (x : X) → option_and_then f o ≡ Some x
     → (v : ℕ) × (o ≡ Some v) × (f v ≡ Some x)
 digit_of f None x e = absurd (cc)
@@ -134,7 +134,7 @@ upper_from-digit : (n d : ℕ) (text : List ℕ)
 unfolding upper_from
 upper_from-digit n d text = refl
 
--- one byte more in front of a text of which it is known
+-- one more byte before a text for which this is known
 module _ (text : List ℕ)
     (behind : (a : Awaited) (name : List ℕ) → spelled_from a text ≡ Some name
     → Spells a text name) where

@@ -1,4 +1,4 @@
--- What crates above may cite of these proofs is what `pub use` passes on; all else is private.
+-- Crates above may cite only those of these proofs that `pub use` passes on; all else is private.
 mod Cuts
 mod Reading
 mod Writing

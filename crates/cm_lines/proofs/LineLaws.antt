@@ -13,8 +13,8 @@ use Rattle.std.proofs.lemmas.List.Elements.{recursion_from_All}
 use Rattle.std.proofs.lemmas.List.Splits.{join_with_byte-slice_split}
 use Rattle.std.proofs.lemmas.Slice.Eq.{bytes_eq-Decides}
 use Rattle.cm_lines.specs.Lines.{Asked, AsksLoader, AsksUnload, AsksTighten, AsksDefine, AsksFind}
-use Rattle.cm_lines.specs.Lines.{pieces, without_empty_rest, lines_of, is_word, question_in}
-use Rattle.cm_lines.specs.Lines.{AsksUnloadAll, are_words, question_of_few, question_of_words}
+use Rattle.cm_lines.specs.Lines.{pieces, without_empty_rest, lines_of, is_word, request_in}
+use Rattle.cm_lines.specs.Lines.{AsksUnloadAll, are_words, request_of_few, request_of_words}
 use Rattle.cm_lines.specs.Laws.{put_together, LinesMakeScript, IsWord, AreWords, spelled}
 use Rattle.cm_lines.specs.Laws.{OneSpelling}
 use Rattle.cm_lines.proofs.Cuts.{pieces_cut, pieces_none}
@@ -91,7 +91,7 @@ IsClean : List ℕ → Type 0
 IsClean text = All (λ b. b ≢ 32) text
 
 IsSpelled : List ℕ → Asked → Type 0
-IsSpelled line question = (line ≡ spelled question) × AreWords question
+IsSpelled line request = (line ≡ spelled request) × AreWords request
 
 word : (text : List ℕ) → is_word text ≡ true → IsClean text → IsWord text
 unfolding IsClean
@@ -113,25 +113,25 @@ spaced_joined : (first : List ℕ) (more : List (List ℕ))
 spaced_joined first [] = sym (append-nil first)
 spaced_joined first (next ∷ more) = ap (λ l. first ++ 32 ∷ l) (spaced_joined next more)
 
--- ---- what is asked for is spelled
+-- ---- a request is spelled
 
 chosen : (t : Bool) (x y : Asked) (rest : Option Asked) → cond t (Some x) rest ≡ Some y
     → ((t ≡ true) × (x ≡ y)) ⊎ (rest ≡ Some y)
 chosen true x y rest e = inl (refl, (cc))
 chosen false x y rest e = inr e
 
-module _ (verb line : List ℕ) (question : Asked) where
-  -- it is asked for by the verb that is said, or else by what is left
+module _ (verb line : List ℕ) (request : Asked) where
+  -- the request is that of the verb, or otherwise that of the other verbs
   by_verb : (said behind : List ℕ) (are : Bool) (asked : Asked) (rest : Option Asked)
       → verb ++ behind ≡ line → (are ≡ true → IsSpelled (said ++ behind) asked)
-      → (rest ≡ Some question → IsSpelled line question)
-      → cond (bytes_eq verb said && are) (Some asked) rest ≡ Some question
-      → IsSpelled line question
+      → (rest ≡ Some request → IsSpelled line request)
+      → cond (bytes_eq verb said && are) (Some asked) rest ≡ Some request
+      → IsSpelled line request
   by_verb said behind are asked rest joined spells other e =
-      picked (chosen (bytes_eq verb said && are) asked question rest e)
+      picked (chosen (bytes_eq verb said && are) asked request rest e)
     where
-      picked : (((bytes_eq verb said && are) ≡ true) × (asked ≡ question))
-          ⊎ (rest ≡ Some question) → IsSpelled line question
+      picked : (((bytes_eq verb said && are) ≡ true) × (asked ≡ request))
+          ⊎ (rest ≡ Some request) → IsSpelled line request
       picked (inl h) =
           let t = and_parts (bytes_eq verb said) are h.0 in
           let is = (bytes_eq-Decides verb said).0 t.0 in
@@ -139,24 +139,24 @@ module _ (verb line : List ℕ) (question : Asked) where
           (subst (λ l. IsSpelled l asked) (ap (λ v. v ++ behind) (sym is) ∙ joined) (spells t.1))
       picked (inr f) = other f
 
-of_few : (verb : List ℕ) (names : List (List ℕ)) (line : List ℕ) (question : Asked)
+of_few : (verb : List ℕ) (names : List (List ℕ)) (line : List ℕ) (request : Asked)
     → join_with_byte 32 (verb ∷ names) ≡ line → AllByRecursion IsClean names
-    → question_of_few verb names ≡ Some question → IsSpelled line question
+    → request_of_few verb names ≡ Some request → IsSpelled line request
 unfolding IsSpelled
-of_few verb [] line question joined clean e = absurd (cc)
-of_few verb (name ∷ []) line question joined clean e =
-    by_verb verb line question (codes "loader") (32 ∷ name) (is_word name) (AsksLoader name) _
+of_few verb [] line request joined clean e = absurd (cc)
+of_few verb (name ∷ []) line request joined clean e =
+    by_verb verb line request (codes "loader") (32 ∷ name) (is_word name) (AsksLoader name) _
     joined (λ some. (refl, word name some clean.0))
-    (by_verb verb line question (codes "unload") (32 ∷ name) (is_word name) (AsksUnload name) _
+    (by_verb verb line request (codes "unload") (32 ∷ name) (is_word name) (AsksUnload name) _
     joined (λ some. (refl, word name some clean.0))
-    (by_verb verb line question (codes "tighten") (32 ∷ name) (is_word name) (AsksTighten name) None
+    (by_verb verb line request (codes "tighten") (32 ∷ name) (is_word name) (AsksTighten name) None
     joined (λ some. (refl, word name some clean.0))
     (λ f. absurd (cc)))) e
-of_few verb (name ∷ last ∷ []) line question joined clean e =
-    by_verb verb line question (codes "define") (32 ∷ (name ++ 32 ∷ last))
+of_few verb (name ∷ last ∷ []) line request joined clean e =
+    by_verb verb line request (codes "define") (32 ∷ (name ++ 32 ∷ last))
     (is_word name && is_word last) (AsksDefine name last) _ joined
     (λ some. (refl, both some))
-    (by_verb verb line question (codes "find") (32 ∷ (name ++ 32 ∷ last))
+    (by_verb verb line request (codes "find") (32 ∷ (name ++ 32 ∷ last))
     (is_word name && is_word last) (AsksFind name last) None joined
     (λ some. (refl, both some))
     (λ f. absurd (cc))) e
@@ -165,18 +165,18 @@ of_few verb (name ∷ last ∷ []) line question joined clean e =
     both some =
         let t = and_parts (is_word name) (is_word last) some in
         (word name t.0 clean.0, word last t.1 clean.1.0)
-of_few verb (name ∷ last ∷ further ∷ more) line question joined clean e = absurd (cc)
+of_few verb (name ∷ last ∷ further ∷ more) line request joined clean e = absurd (cc)
 
-of_pieces : (parts : List (List ℕ)) (line : List ℕ) (question : Asked)
+of_pieces : (parts : List (List ℕ)) (line : List ℕ) (request : Asked)
     → join_with_byte 32 parts ≡ line → AllByRecursion IsClean parts
-    → question_of_words parts ≡ Some question → IsSpelled line question
+    → request_of_words parts ≡ Some request → IsSpelled line request
 unfolding IsSpelled
-of_pieces [] line question joined clean e = absurd (cc)
-of_pieces (verb ∷ names) line question joined clean e =
-    by_verb verb line question (codes "unloadall") (spaced names) (are_words names)
-    (AsksUnloadAll names) (question_of_few verb names)
+of_pieces [] line request joined clean e = absurd (cc)
+of_pieces (verb ∷ names) line request joined clean e =
+    by_verb verb line request (codes "unloadall") (spaced names) (are_words names)
+    (AsksUnloadAll names) (request_of_few verb names)
     (sym (spaced_joined verb names) ∙ joined) (λ some. (refl, all some))
-    (of_few verb names line question joined clean.1) e
+    (of_few verb names line request joined clean.1) e
   where
     all : are_words names ≡ true → (0 < length names) × All IsWord names
     all some =
@@ -185,7 +185,7 @@ of_pieces (verb ∷ names) line question joined clean e =
           All-from_recursion IsWord names (words names t.1 clean.1),
         )
 
--- ---- what is spelled is asked for
+-- ---- what is spelled is a request
 
 is_some_word : (text : List ℕ) → IsWord text → is_word text ≡ true
 is_some_word text w = lt-ltb 0 (length text) w.0
@@ -208,35 +208,35 @@ are_some_words : (texts : List (List ℕ)) → 0 < length texts → AllByRecursi
 are_some_words texts some w =
     ap (λ t. t && list_all is_word texts) (lt-ltb 0 (length texts) some) ∙ all_some_words texts w
 
--- of a verb with one name, and of one with two
+-- the request of a verb with one name, and of one with two
 asks_one : (verb name : List ℕ) (asked : Asked) → IsWord name
-    → question_of_words (verb ∷ name ∷ []) ≡ cond (is_word name) (Some asked) None
-    → question_of_words (verb ∷ pieces 32 name) ≡ Some asked
+    → request_of_words (verb ∷ name ∷ []) ≡ cond (is_word name) (Some asked) None
+    → request_of_words (verb ∷ pieces 32 name) ≡ Some asked
 asks_one verb name asked w is =
-    ap (λ l. question_of_words (verb ∷ l)) (pieces_none 32 name w.1) ∙ is
+    ap (λ l. request_of_words (verb ∷ l)) (pieces_none 32 name w.1) ∙ is
     ∙ ap (λ t. cond t (Some asked) None) (is_some_word name w)
 
 asks_two : (verb name last : List ℕ) (asked : Asked) → IsWord name × IsWord last
-    → question_of_words (verb ∷ name ∷ last ∷ [])
+    → request_of_words (verb ∷ name ∷ last ∷ [])
     ≡ cond (is_word name && is_word last) (Some asked) None
-    → question_of_words (verb ∷ pieces 32 (name ++ 32 ∷ last)) ≡ Some asked
+    → request_of_words (verb ∷ pieces 32 (name ++ 32 ∷ last)) ≡ Some asked
 asks_two verb name last asked w is =
-    ap (λ l. question_of_words (verb ∷ l))
+    ap (λ l. request_of_words (verb ∷ l))
     (pieces_cut 32 (name ++ 32 ∷ last) name last refl w.0.1 ∙ ap (λ l. name ∷ l)
     (pieces_none 32 last w.1.1))
     ∙ is ∙ ap (λ t. cond (t && is_word last) (Some asked) None) (is_some_word name w.0)
     ∙ ap (λ t. cond t (Some asked) None) (is_some_word last w.1)
 
 asks_all : (names : List (List ℕ)) → (0 < length names) × All IsWord names
-    → question_in (spelled (AsksUnloadAll names)) ≡ Some (AsksUnloadAll names)
+    → request_in (spelled (AsksUnloadAll names)) ≡ Some (AsksUnloadAll names)
 asks_all [] w = absurd (omega (arith, w.0))
 asks_all (name ∷ more) w =
     let ws = recursion_from_All IsWord (name ∷ more) w.1 in
-    ap (λ l. question_of_words (codes "unloadall" ∷ l)) (pieces_spaced name more ws.0 ws.1)
+    ap (λ l. request_of_words (codes "unloadall" ∷ l)) (pieces_spaced name more ws.0 ws.1)
     ∙ ap (λ t. cond t (Some (AsksUnloadAll (name ∷ more)))
-    (question_of_few (codes "unloadall") (name ∷ more))) (are_some_words (name ∷ more) w.0 ws)
+    (request_of_few (codes "unloadall") (name ∷ more))) (are_some_words (name ∷ more) w.0 ws)
 
-asks : (question : Asked) → AreWords question → question_in (spelled question) ≡ Some question
+asks : (request : Asked) → AreWords request → request_in (spelled request) ≡ Some request
 asks (AsksLoader name) w = asks_one (codes "loader") name (AsksLoader name) w refl
 asks (AsksUnload name) w = asks_one (codes "unload") name (AsksUnload name) w refl
 asks (AsksTighten name) w = asks_one (codes "tighten") name (AsksTighten name) w refl
@@ -247,8 +247,8 @@ asks (AsksUnloadAll names) w = asks_all names w
 
 pub one_spelling : OneSpelling
 unfolding IsSpelled IsClean
-one_spelling line question = (
-  λ e. of_pieces (pieces 32 line) line question (join_with_byte-slice_split 32 line)
+one_spelling line request = (
+  λ e. of_pieces (pieces 32 line) line request (join_with_byte-slice_split 32 line)
       (pieces_clean 32 line) e,
-  λ h. ap question_in h.0 ∙ asks question h.1,
+  λ h. ap request_in h.0 ∙ asks request h.1,
 )

@@ -12,7 +12,7 @@ use Rattle.std.specs.Option.{OnSome}
 use Rattle.cm_lines.specs.declared.line_buffer.LineBuffer.{LineBuffer}
 use Rattle.cm_lines.specs.declared.input.Piece.TheVariants as piece
 use Rattle.cm_lines.specs.Lines.{without_empty_rest, lines_of}
-use Rattle.cm_lines.specs.Streams.{TakesLines, HasNoLine, Holds, Grows, TakesPiece, ReadsLine}
+use Rattle.cm_lines.specs.Streams.{TakesLines, HasNoLine, HoldsLine, Grows, TakesPiece, ReadsLine}
 use Rattle.cm_lines.proofs.Cuts.{pieces_cut, pieces_none, pieces_some}
 
 pub take_through_cut : (shown front back : List ℕ) → shown ≡ front ++ 10 ∷ back
@@ -40,14 +40,14 @@ lines_last line some h =
 
 -- ---- a line so far
 
--- these bytes of a line were taken, and the buffer holds them
+-- these bytes of a line were consumed, and the buffer holds them
 pub record LineSoFar (script now : Option (List ℕ)) (buffer : LineBuffer) : Type 0 where
   pub line : List ℕ
   pub taken : Consumes script now line
   pub inside : All (λ b. b ≢ 10) line
-  pub held : Holds line buffer
+  pub held : HoldsLine line buffer
 
-pub line_start : (a : Option (List ℕ)) (buffer : LineBuffer) → Holds [] buffer
+pub line_start : (a : Option (List ℕ)) (buffer : LineBuffer) → HoldsLine [] buffer
     → LineSoFar a a buffer
 line_start a buffer held =
     record { line = []; taken = Consumes-nil a; inside = All-nil (λ b. b ≢ 10); held = held }
@@ -94,7 +94,7 @@ last_taken (Some script) (Some rest) line some taken end inside =
     ap lines_of (taken ∙ ap (λ l. line ++ l) end ∙ append-nil line) ∙ lines_last line some inside ∙
     ap (λ l. line ∷ lines_of l) (sym end)
 
--- the reader that began with known bytes still tells them
+-- a reader whose bytes are known at the beginning still has known bytes
 still : (a b : Option (List ℕ)) (line : List ℕ) (P : Type 0) → Consumes a b line → OnSome b P
     → OnSome a P
 still None b line P taken h = tt
@@ -103,7 +103,7 @@ still (Some script) (Some rest) line P taken h = h
 
 pub line_end : (a b c : Option (List ℕ)) (old new : LineBuffer) (bytes : List ℕ) (some : Bool)
     → LineSoFar a b old → TakesPiece b c piece.End bytes → Grows old new bytes
-    → ((line : List ℕ) → Holds line new → some ≡ ltb 0 (length line)) → ReadsLine a c new some
+    → ((line : List ℕ) → HoldsLine line new → some ≡ ltb 0 (length line)) → ReadsLine a c new some
 line_end a b c old new bytes some so p grows tells =
     let line : List ℕ = so.line ++ bytes in
     let taken = Consumes-trans a b c so.line bytes so.taken p.taken in
@@ -116,12 +116,12 @@ line_end a b c old new bytes some so p grows tells =
     empty taken end false e = none_left a c taken end
 
     filled : (line : List ℕ) → 0 < length line → Consumes a c line → All (λ b. b ≢ 10) line
-        → Holds line new → OnSome a (IsAtEnd c) → (t : Bool) → t ≡ true → ReadsLine a c new t
+        → HoldsLine line new → OnSome a (IsAtEnd c) → (t : Bool) → t ≡ true → ReadsLine a c new t
     filled line long taken inside held end true e =
         (line, last_taken a c line long taken end inside, held)
     filled line long taken inside held end false e = absurd (cc)
 
-    ends : (line : List ℕ) → Consumes a c line → All (λ b. b ≢ 10) line → Holds line new
+    ends : (line : List ℕ) → Consumes a c line → All (λ b. b ≢ 10) line → HoldsLine line new
         → OnSome a (IsAtEnd c) → ReadsLine a c new some
     ends [] taken inside held end = empty taken end some (tells [] held)
     ends (b ∷ line) taken inside held end =

@@ -1,10 +1,10 @@
 -- Lines that are taken one after another.
--- On `TakesLines`, `lines_of`, `Begins`.
+-- On `TakesLines`, `lines_of`, `ScriptBegins`.
 use Rattle.std.proofs.Common.{◌≡◌, ℕ, List, [], ◌++◌, Option, Some, None, refl, sym, ap, ◌∙◌}
 use Rattle.std.proofs.Common.{append_assoc, append-nil}
 use Rattle.std.specs.Option.{IfSome}
 use Rattle.cm_lines.specs.Lines.{lines_of}
-use Rattle.cm_lines.specs.Streams.{TakesLines, HasNoLine, Begins}
+use Rattle.cm_lines.specs.Streams.{TakesLines, HasNoLine, ScriptBegins}
 
 pub takes_none : (a : Option (List ℕ)) → TakesLines a a []
 takes_none None = tt
@@ -25,19 +25,19 @@ takes_all (Some x) None lines p none = absurd p
 takes_all (Some x) (Some y) lines p none = sym (p ∙ ap (λ l. lines ++ l) none ∙ append-nil lines)
 
 pub begins_with : (a b : Option (List ℕ)) (lines : List (List ℕ)) → TakesLines a b lines
-    → Begins a lines
+    → ScriptBegins a lines
 begins_with None b lines p = tt
 begins_with (Some x) None lines p = absurd p
 begins_with (Some x) (Some y) lines p = (lines_of y, p)
 
 pub begins_more : (a b : Option (List ℕ)) (lines more : List (List ℕ)) → TakesLines a b lines
-    → Begins b more → Begins a (lines ++ more)
+    → ScriptBegins b more → ScriptBegins a (lines ++ more)
 begins_more None b lines more p q = tt
 begins_more (Some x) None lines more p q = absurd p
 begins_more (Some x) (Some y) lines more p q =
     (q.0, p ∙ ap (λ l. lines ++ l) q.1 ∙ sym (append_assoc lines more q.0))
 
--- the lines behind those that were taken
+-- the lines after those that were taken
 pub behind : Option (List ℕ) → List (List ℕ)
 behind None = []
 behind (Some script) = lines_of script

@@ -5,7 +5,7 @@ use Rattle.std.proofs.Common.{take-append-drop}
 use Rattle.std.proofs.KnownBytes.{Appends-trans}
 use Rattle.std.specs.Io.KnownBytes.{Appends}
 
--- all but the rest is written
+-- all but this remainder is written
 pub record WrittenBut (held holds : Option (List ℕ)) (text rest : List ℕ) : Type 0 where
   pub part : List ℕ
   pub whole : text ≡ part ++ rest

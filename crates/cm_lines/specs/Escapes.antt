@@ -1,6 +1,6 @@
--- Class names in scripts: a byte from 21 to 7E other than `%` stands for itself; every other byte
--- is `%` and two hexadecimal digits, written upper case and read in either case. So each name has
--- one spelling, but for that case.
+-- Class names in scripts: a byte 0x21 to 0x7E other than `%` stands for itself; every other byte is
+-- `%` and two hexadecimal digits, written in upper case and read in either case. So each name has
+-- one spelling, apart from that case.
 use Rattle.std.specs.Prelude.{◌<◌, ℕ, zero, suc, ◌+◌, ◌-◌, ◌*◌, ◌/◌, ◌%◌, Bool, not, ◌&&◌, ◌==◌}
 use Rattle.std.specs.Prelude.{nat_le, nat_lt, if◌then◌else◌, List, [], ◌∷◌, ◌++◌, Option, Some}
 use Rattle.std.specs.Prelude.{None, Result, Ok, Err}
@@ -50,7 +50,7 @@ spelled_from (Low high) (d ∷ text) =
 abbrev pub unescaped : List ℕ → Option (List ℕ)
 unescaped text = spelled_from Any text
 
--- the name that is spelled by what one byte came to and a text after it
+-- the name that is spelled by the result of one byte and a text after it
 abbrev pub spelled_after : Result Read NameFault → List ℕ → Option (List ℕ)
 spelled_after (Ok (Awaits next)) text = spelled_from next text
 spelled_after (Ok (Byte b)) text = option_map (λ n. b ∷ n) (spelled_from Any text)
@@ -71,7 +71,7 @@ abbrev pub named_by : List ℕ → Option (List ℕ) → Option (List ℕ)
 named_by front None = None
 named_by front (Some name) = Some (front ++ name)
 
--- ---- spellings up to the case of their digits
+-- ---- spellings, apart from the case of their digits
 
 -- a hexadecimal digit in upper case
 abbrev pub in_upper_case : ℕ → ℕ

@@ -1,10 +1,10 @@
--- What holds of the definitions themselves.
+-- Facts about the definitions themselves.
 use Rattle.std.specs.Prelude.{◌≡◌, ◌≢◌, ◌<◌, ◌⊎◌, ◌↔◌, ℕ, ◌++◌, List, [], ◌∷◌, length, codes}
 use Rattle.std.specs.Prelude.{Some}
 use Rattle.std.specs.List.{All, flat_map}
 use Rattle.cm_lines.specs.Escapes.{escaped, unescaped, with_upper_digits}
 use Rattle.cm_lines.specs.Lines.{Asked, AsksLoader, AsksUnload, AsksTighten, AsksDefine, AsksFind}
-use Rattle.cm_lines.specs.Lines.{AsksUnloadAll, question_in, lines_of}
+use Rattle.cm_lines.specs.Lines.{AsksUnloadAll, request_in, lines_of}
 
 -- ---- lines
 
@@ -12,8 +12,7 @@ use Rattle.cm_lines.specs.Lines.{AsksUnloadAll, question_in, lines_of}
 abbrev pub put_together : List (List ℕ) → List ℕ
 put_together lines = flat_map (λ line. line ++ 10 ∷ []) lines
 
--- No line has a newline, and put together they are the script, or the script with a newline after
--- it.
+-- No line has a newline, and joined they are the script, or the script with a newline after it.
 abbrev pub LinesMakeScript : Type 0
 LinesMakeScript =
     (script : List ℕ)
@@ -40,11 +39,11 @@ spelled (AsksDefine loader digits) = codes "define " ++ (loader ++ 32 ∷ digits
 spelled (AsksFind loader name) = codes "find " ++ (loader ++ 32 ∷ name)
 spelled (AsksUnloadAll names) = codes "unloadall" ++ flat_map (λ name. 32 ∷ name) names
 
--- A line asks for something exactly if it is spelled so, in words.
+-- A line is a request exactly if it spells that request, in words.
 abbrev pub OneSpelling : Type 0
 OneSpelling =
-    (line : List ℕ) (question : Asked) → (question_in line ≡ Some question)
-    ↔ ((line ≡ spelled question) × AreWords question)
+    (line : List ℕ) (request : Asked) → (request_in line ≡ Some request)
+    ↔ ((line ≡ spelled request) × AreWords request)
 
 -- ---- names
 
@@ -52,7 +51,7 @@ OneSpelling =
 abbrev pub UnescapingUndoes : Type 0
 UnescapingUndoes = (name : List ℕ) → All (λ b. b < 256) name → unescaped (escaped name) ≡ Some name
 
--- What spells a name is its spelling, but for the case of the digits.
+-- What spells a name is its spelling, apart from the case of the digits.
 abbrev pub SpellingIsOne : Type 0
 SpellingIsOne =
     (word name : List ℕ) → unescaped word ≡ Some name → with_upper_digits word ≡ escaped name

@@ -1,4 +1,4 @@
--- What is taken from a reader and given to a writer, if those tell their bytes.
+-- What is taken from a reader and given to a writer, if their bytes are known.
 use Rattle.std.specs.Prelude.{◌≡◌, ◌≢◌, ◌<◌, ◌≤◌, ℕ, ◌++◌, Bool, true, false, List, [], ◌∷◌, length}
 use Rattle.std.specs.Prelude.{Option, Some, None, IfSome, OnSome}
 use Rattle.std.specs.List.{All}
@@ -8,10 +8,10 @@ use Rattle.cm_lines.specs.declared.input.Piece.{Piece}
 use Rattle.cm_lines.specs.declared.input.Piece.TheVariants as piece
 use Rattle.cm_lines.specs.Lines.{lines_of, line_limit}
 
--- ---- what goes in and out
+-- ---- input and output
 
--- The script that a reader still gives, and what a writer holds before a run and after it; nothing
--- if they don't tell.
+-- The script that a reader still has, and what a writer holds before a run and after it; nothing if
+-- their bytes aren't known.
 pub record Io : Type 0 where
   pub script : Option (List ℕ)
   pub before : Option (List ℕ)
@@ -32,24 +32,25 @@ abbrev pub HasNoLine : Option (List ℕ) → Type 0
 HasNoLine known = IfSome known (λ script. lines_of script ≡ [])
 
 -- the script's lines begin with these
-abbrev pub Begins : Option (List ℕ) → List (List ℕ) → Type 0
-Begins known lines =
+abbrev pub ScriptBegins : Option (List ℕ) → List (List ℕ) → Type 0
+ScriptBegins known lines =
     IfSome known (λ script. (more : List (List ℕ)) × (lines_of script ≡ lines ++ more))
 
 -- what a buffer holds of a line: its bytes, or that they are too many
-pub record Holds (line : List ℕ) (buffer : LineBuffer) : Type 0 where
+pub record HoldsLine (line : List ℕ) (buffer : LineBuffer) : Type 0 where
   pub bytes : buffer.is_long ≡ false → (buffer.bytes.items ≡ line) × (length line ≤ line_limit)
   pub long : buffer.is_long ≡ true → line_limit < length line
 
 -- whether there was a line
 abbrev pub ReadsLine : Option (List ℕ) → Option (List ℕ) → LineBuffer → Bool → Type 0
-ReadsLine old new buffer true = (line : List ℕ) × TakesLines old new (line ∷ []) × Holds line buffer
+ReadsLine old new buffer true = (line : List ℕ) × TakesLines old new (line ∷ [])
+    × HoldsLine line buffer
 ReadsLine old new buffer false = HasNoLine old
 
 abbrev pub Grows : LineBuffer → LineBuffer → List ℕ → Type 0
-Grows old new bytes = (line : List ℕ) → Holds line old → Holds (line ++ bytes) new
+Grows old new bytes = (line : List ℕ) → HoldsLine line old → HoldsLine (line ++ bytes) new
 
--- what a piece of a line takes: its bytes, and the newline after them
+-- what a piece of a line takes: its bytes, and the newline after them if there is one
 abbrev pub taken_by : Piece → List ℕ → List ℕ
 taken_by piece.End bytes = bytes
 taken_by piece.More bytes = bytes

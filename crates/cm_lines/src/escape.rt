@@ -1,5 +1,5 @@
-//! Class names in scripts: bytes 21 to 7E but `%` as they are, and each other byte as `%` and two
-//! hexadecimal digits.
+//! Class names in scripts: bytes 0x21 to 0x7E except `%` as they are, and each other byte as `%`
+//! and two hexadecimal digits.
 
 ghost use Rattle.std.specs.Prelude.{◌≡◌, ◌++◌, ◌<◌, OnOk, ◌∷◌, ℕ, List, IfOk, IfErr, IfSome};
 ghost use Rattle.std.specs.Prelude.{IsErrOf, Some, None};
@@ -53,8 +53,8 @@ fn digit_of_value(value: u8) -> u8
     }
 }
 
-/// Writes a name's spelling after what is there. At an `Err`, if an allocation failed, a part
-/// of it may stand there.
+/// Appends a name's spelling. After an `Err`, if an allocation failed, a part of it may have been
+/// appended.
 pub fn escape_into(out: &mut Vec<u8>, name: &[u8]) -> Result<(), AllocError>
     ensures ok { OnOk result (out.new.items ≡ out.old.items ++ escaped name.now) }
 {
@@ -75,7 +75,7 @@ fn escape_byte_into(out: &mut Vec<u8>, byte: u8) -> Result<(), AllocError>
     Ok(())
 }
 
-/// What is read next of a spelling.
+/// What is read next in a spelling.
 #[derive(Clone, Copy, Debug, PartialEq, Eq)]
 enum Awaited {
     /// A byte that stands for itself, or a `%`.
@@ -86,7 +86,7 @@ enum Awaited {
     Low(u8),
 }
 
-/// The name that a word spells. `BadEscape` comes exactly if it spells none.
+/// The name that a word spells. `BadEscape` is returned exactly if it spells none.
 pub fn unescape(alloc: Global, word: &[u8]) -> Result<Vec<u8>, NameFault>
     ensures name { IfOk result (λ name. unescaped word.now ≡ Some name.items) }
     ensures bad { IsErrOf result NameFault.BadEscape → unescaped word.now ≡ None }
@@ -126,7 +126,7 @@ fn advance(name: &mut Vec<u8>, awaited: Awaited, byte: u8) -> Result<Awaited, Na
     }
 }
 
-/// What one byte of a spelling comes to.
+/// What one byte of a spelling means.
 enum Read {
     Awaits(Awaited),
     Byte(u8),

@@ -1,8 +1,8 @@
-//! Why a line isn't read or written.
+//! Why a line can't be read or written.
 
 use thiserror::Error;
 
-/// Why a line isn't read or written.
+/// Why a line can't be read or written.
 #[derive(Clone, Copy, Debug, PartialEq, Eq, Error)]
 pub enum LineFault {
     /// The reader failed.

@@ -1,4 +1,4 @@
-//! Reading a script line by line.
+//! Reads a script line by line.
 
 ghost use Rattle.std.specs.Prelude.{◌≡◌, ◌≢◌, ◌≤◌, ℕ, List, length, take, IfOk, IfErr};
 ghost use Rattle.cm_lines.specs.Streams.{IsPiece, TakesPiece, ReadsLine, Grows};
@@ -16,15 +16,15 @@ enum Piece {
     End,
     /// Inside the line.
     More,
-    /// At a newline, which is taken too.
+    /// At a newline, which is consumed too.
     Newline,
 }
 
-/// Reads up to the next newline and takes it too, and answers whether there was a line: at a
-/// script's end, a rest that isn't empty is one. What `line` held before is gone.
+/// Reads up to and including the next newline, and returns whether there was a line: the last
+/// newline of a script is optional. What `line` held before is dropped.
 ///
-/// `Input` if the reader fails, `NoMemory` if an allocation failed. How much was taken
-/// is then left open.
+/// `Input` if the reader fails, `NoMemory` if an allocation failed. It is then unspecified how much
+/// was consumed.
 pub fn read_line<R: BufRead>(reader: &mut R, line: &mut LineBuffer) -> Result<bool, LineFault>
     ensures read { IfOk result
         (ReadsLine (R.remaining reader.old) (R.remaining reader.new) line.new) }
@@ -41,7 +41,7 @@ pub fn read_line<R: BufRead>(reader: &mut R, line: &mut LineBuffer) -> Result<bo
     Err(LineFault::Input)
 }
 
-/// Takes what the reader shows of the line.
+/// Takes what the reader has buffered of the line.
 fn take_piece<R: BufRead>(reader: &mut R, line: &mut LineBuffer) -> Result<Piece, LineFault>
     ensures piece { IfOk result (λ piece. (bytes : List ℕ)
         × TakesPiece (R.remaining reader.old) (R.remaining reader.new) piece bytes
@@ -61,7 +61,7 @@ fn take_piece<R: BufRead>(reader: &mut R, line: &mut LineBuffer) -> Result<Piece
     Ok(piece)
 }
 
-/// Adds what is in front of the first newline, and answers how many bytes that is with it.
+/// Adds what precedes the first newline, and returns how many bytes that is with the newline.
 fn push_shown(line: &mut LineBuffer, shown: &[u8]) -> Result<(usize, Piece), AllocError>
     ensures within { IfOk result (λ pushed. pushed.0 ≤ length shown.now) }
     ensures piece { IfOk result (λ pushed. (bytes : List ℕ)

@@ -1,16 +1,16 @@
-//! What holds of the definitions themselves. Each law is the contract of a function with an empty
+//! Facts about the definitions themselves. Each law is the contract of a function with an empty
 //! body.
 
 ghost use Rattle.cm_lines.specs.Laws.{LinesMakeScript, OneSpelling};
 ghost use Rattle.cm_lines.specs.Laws.{UnescapingUndoes, SpellingIsOne};
 
-/// The lines of a script have no newlines, and put together they are the script.
+/// The lines of a script have no newlines, and joined with newlines they are the script.
 pub fn lines_make_the_script()
     ensures { LinesMakeScript }
 {}
 
-/// What a line asks for has one spelling.
-pub fn questions_have_one_spelling()
+/// A line's request has one spelling.
+pub fn requests_have_one_spelling()
     ensures { OneSpelling }
 {}
 
@@ -19,7 +19,8 @@ pub fn unescaping_undoes_escaping()
     ensures { UnescapingUndoes }
 {}
 
-/// Only a name's own spelling is read as it, in which each digit after a `%` may have either case.
+/// Only a name's own spelling is read as that name, except that each digit after a `%` may have
+/// either case.
 pub fn names_have_one_spelling()
     ensures { SpellingIsOne }
 {}

@@ -1,4 +1,4 @@
-//! The text of scripts: lines and what they ask for, names' spelling, reading and writing.
+//! The text of scripts: lines and their requests, names' spelling, reading and writing.
 #![tactic(auto)]
 
 mod bound;
@@ -17,7 +17,7 @@ pub use escape::{NameFault, escape_into, unescape};
 pub use fault::LineFault;
 pub use input::read_line;
 pub use laws::{
-    lines_make_the_script, names_have_one_spelling, questions_have_one_spelling,
+    lines_make_the_script, names_have_one_spelling, requests_have_one_spelling,
     unescaping_undoes_escaping,
 };
 pub use line::{Line, are_words, parse};

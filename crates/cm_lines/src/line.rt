@@ -2,11 +2,11 @@
 
 ghost use Rattle.std.specs.Prelude.{◌≡◌, [], ◌∷◌};
 ghost use Rattle.std.specs.Option.{option_map};
-ghost use Rattle.cm_lines.specs.Lines.{pieces, are_words, question_in, question_of_few, seen};
+ghost use Rattle.cm_lines.specs.Lines.{pieces, are_words, request_in, request_of_few, seen};
 
 use crate::cutting::cut;
 
-/// What a line asks for.
+/// A line's request.
 #[derive(Clone, Copy, Debug, PartialEq, Eq)]
 pub enum Line<'a> {
     /// `loader NAME`
@@ -19,14 +19,13 @@ pub enum Line<'a> {
     Define(&'a [u8], &'a [u8]),
     /// `find NAME CLASS`
     Find(&'a [u8], &'a [u8]),
-    /// `unloadall NAME NAME ..`: the names as they stand in the line, with one space between.
+    /// `unloadall NAME NAME ..`: the names as they are in the line, with one space between.
     UnloadAll(&'a [u8]),
 }
 
-/// What a line asks for, if it has one of the known forms: words with one space between, none
-/// empty.
+/// A line's request, if it has one of the known forms: words with one space between, none empty.
 pub fn parse(line: &[u8]) -> Option<Line<'_>>
-    ensures { option_map seen result ≡ question_in line.now }
+    ensures { option_map seen result ≡ request_in line.now }
 {
     let (verb, words) = cut(line, b' ')?;
     if verb == b"unloadall".as_slice() && are_words(words) {
@@ -45,7 +44,7 @@ pub fn are_words(text: &[u8]) -> bool
 }
 
 fn of_few_words<'a>(verb: &[u8], words: &'a [u8]) -> Option<Line<'a>>
-    ensures { option_map seen result ≡ question_of_few verb.now (pieces 32 words.now) }
+    ensures { option_map seen result ≡ request_of_few verb.now (pieces 32 words.now) }
 {
     match cut(words, b' ') {
         None => of_one_name(verb, words),
@@ -57,7 +56,7 @@ fn of_few_words<'a>(verb: &[u8], words: &'a [u8]) -> Option<Line<'a>>
 }
 
 fn of_one_name<'a>(verb: &[u8], name: &'a [u8]) -> Option<Line<'a>>
-    ensures { option_map seen result ≡ question_of_few verb.now (name.now ∷ []) }
+    ensures { option_map seen result ≡ request_of_few verb.now (name.now ∷ []) }
 {
     if name.is_empty() {
         None
@@ -73,7 +72,7 @@ fn of_one_name<'a>(verb: &[u8], name: &'a [u8]) -> Option<Line<'a>>
 }
 
 fn of_two_names<'a>(verb: &[u8], name: &'a [u8], last: &'a [u8]) -> Option<Line<'a>>
-    ensures { option_map seen result ≡ question_of_few verb.now (name.now ∷ last.now ∷ []) }
+    ensures { option_map seen result ≡ request_of_few verb.now (name.now ∷ last.now ∷ []) }
 {
     if name.is_empty() || last.is_empty() {
         None

@@ -9,8 +9,8 @@ use std::alloc::{AllocError, Global};
 /// How many bytes a line may have, without its newline.
 pub const LINE_LIMIT: usize = 16_777_216;
 
-/// A line that is read: its bytes, or that it has more of them than a line may have. It keeps no
-/// more bytes than a line may have.
+/// A line that is read: its bytes, or only that it has more bytes than a line may have. It never
+/// keeps more bytes than that.
 #[derive(Drop)]
 pub struct LineBuffer {
     bytes: Vec<u8>,
@@ -21,11 +21,11 @@ pub struct LineBuffer {
 impl LineBuffer {
     ghost use Rattle.std.specs.Option.{option_map};
     ghost use Rattle.cm_lines.specs.Lines.{asked_by, seen};
-    ghost use Rattle.cm_lines.specs.Streams.{Holds, Grows};
+    ghost use Rattle.cm_lines.specs.Streams.{HoldsLine, Grows};
 
-    /// A buffer without a line; its memory is taken as lines are read.
+    /// A buffer without a line; its memory is allocated as lines are read.
     pub fn new(alloc: Global) -> LineBuffer
-        ensures { Holds [] result }
+        ensures { HoldsLine [] result }
     {
         LineBuffer {
             bytes: Vec::new(alloc),
@@ -33,9 +33,9 @@ impl LineBuffer {
         }
     }
 
-    /// What the line asks for, if it has one of the known forms and isn't too long.
-    pub fn question(&self) -> Option<Line<'_>>
-        ensures { (line : List ℕ) → Holds line self.now
+    /// The line's request, if it has one of the known forms and isn't too long.
+    pub fn request(&self) -> Option<Line<'_>>
+        ensures { (line : List ℕ) → HoldsLine line self.now
             → option_map seen result ≡ asked_by line }
     {
         if self.is_long {
@@ -46,15 +46,15 @@ impl LineBuffer {
     }
 
     pub(crate) fn clear(&mut self)
-        ensures { Holds [] self.new }
+        ensures { HoldsLine [] self.new }
     {
         self.bytes.clear();
         self.is_long = false;
     }
 
-    /// Whether the line has bytes at all.
+    /// Whether the line has any bytes.
     pub(crate) fn has_bytes(&self) -> bool
-        ensures { (line : List ℕ) → Holds line self.now → result ≡ nat_lt 0 (length line) }
+        ensures { (line : List ℕ) → HoldsLine line self.now → result ≡ nat_lt 0 (length line) }
     {
         self.is_long || !self.bytes.is_empty()
     }

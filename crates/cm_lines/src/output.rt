@@ -1,4 +1,4 @@
-//! Writing line by line.
+//! Writes line by line.
 
 ghost use Rattle.std.specs.Prelude.{◌≡◌, ◌≤◌, [], length, take, IfOk, OnOk, OnErr, IfErr};
 ghost use Rattle.std.specs.Io.KnownBytes.{Appends};
@@ -8,7 +8,7 @@ use crate::bound::MOST_STEPS;
 use crate::fault::LineFault;
 use std::io::{ErrorKind, Write};
 
-/// Writes a line, its newline included in what is given, and has it passed on. After an `Err`,
+/// Writes a line, which includes its newline, and flushes the writer. After an `Err`, which is
 /// `Output`, a beginning of it is written, or all of it.
 pub fn write_line<W: Write>(writer: &mut W, line: &[u8]) -> Result<(), LineFault>
     ensures ok { OnOk result (Appends (W.contents writer.old) (W.contents writer.new) line.now) }
@@ -42,7 +42,7 @@ fn write_whole<W: Write>(writer: &mut W, text: &[u8]) -> Result<(), LineFault>
     Err(LineFault::Output)
 }
 
-/// Writes a beginning of the text, none of it if a signal came in between.
+/// Writes a beginning of the text, or nothing if a signal interrupted it.
 fn write_some<W: Write>(writer: &mut W, text: &[u8]) -> Result<usize, LineFault>
     ensures within { IfOk result (λ count. count ≤ length text.now) }
     ensures ok { IfOk result

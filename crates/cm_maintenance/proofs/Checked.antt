@@ -28,7 +28,7 @@ use Rattle.cm_maintenance.specs.Report.{Reports, IsCount, first_records}
 use Rattle.cm_maintenance.proofs.Tallies.{each_counts}
 use Rattle.cm_maintenance.proofs.Counts.{loaders_counted, chunks_counted}
 
--- ---- rows with something else kept of each class
+-- ---- rows that keep something else of each class
 
 numbers-with : {P Q : Type 0} (f : P → Q) (rows : List (Row P))
     → numbers_in (rows_with f rows) ≡ numbers_in rows

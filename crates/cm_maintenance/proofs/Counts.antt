@@ -129,7 +129,7 @@ no_arena classes (Class r c ∷ rows) x none = no_arena classes rows x none
 
 -- ---- chunks of rows
 
--- of each loader among rows its chunks
+-- for each loader among rows, its chunks
 abbrev chunk_sum : {A : Type 0} → List ClassRow → List (Row A) → ℕ
 chunk_sum classes [] = 0
 chunk_sum classes (Loader r ∷ rows) = length (chunks_of r.number classes) + chunk_sum classes rows
@@ -161,7 +161,7 @@ eqb-sym a b = by_test (eqb a b) (eqb b a) refl refl
 abbrev one_if : Bool → ℕ
 one_if asked = cond asked 1 0
 
--- how often a loader of this number stands among rows, if it is asked for
+-- how often a loader of this number occurs among rows, if it is one that counts
 abbrev hits : {A : Type 0} → ℕ → Bool → List (Row A) → ℕ
 hits u asked [] = 0
 hits u asked (Loader r ∷ rows) = cond (eqb r.number u && asked) 1 0 + hits u asked rows

@@ -1,4 +1,4 @@
--- A trim's two device calls, and what stands meanwhile.
+-- A trim's two device calls, and what holds meanwhile.
 -- For `cut`, `trim_file`, `trim_to`.
 use Rattle.std.proofs.Common.{◌≡◌, ℕ, Bool, true, false, List, [], ◌∷◌, length}
 use Rattle.std.proofs.Common.{Option, Some, None, Result, Ok, Err, refl, sym, ap, subst}
@@ -27,19 +27,19 @@ use Rattle.cm_verdict.specs.Verdict.{Standing, verdict}
 use Rattle.cm_recover.specs.declared.fault.OpenFault.{OpenFault}
 use Rattle.cm_recover.specs.declared.fault.OpenFault.TheVariants as open_fault
 use Rattle.cm_recover.specs.Opened.{Opens}
-use Rattle.cm_recover.specs.Standing.{GoesByVerdict}
+use Rattle.cm_recover.specs.Standing.{FollowsVerdict}
 use Rattle.cm_maintenance.specs.declared.fault.MaintenanceFault.{MaintenanceFault}
 use Rattle.cm_maintenance.specs.declared.status.Status.{Status}
 use Rattle.cm_maintenance.specs.declared.status.Status.TheVariants as status
 use Rattle.cm_maintenance.specs.Reporting.{Writes, told, status_of}
 use Rattle.cm_maintenance.specs.Texts.{roots_line, fault_line}
 use Rattle.cm_maintenance.proofs.Statuses.{never_done}
-use Rattle.cm_maintenance.specs.Trimming.{IsKept, HasNoMore, Uses, IsTrimmed, rows_in}
+use Rattle.cm_maintenance.specs.Trimming.{SameIdle, HasNoMore, Uses, IsTrimmed, rows_in}
 use Rattle.cm_recover.specs.Opened.{StandsForSame}
 
 -- ---- what a crash leaves
 
--- while no group is under way, it is what is committed
+-- while no group is under way, a crash leaves what is committed
 pub shows_committed : {D : Type 0} (s : CommitterState D) → NoGroup s.underway → (image : List ℕ)
     → MayLeave s image → ShowsCommitted s image
 shows_committed s none image l =
@@ -53,8 +53,8 @@ shows_committed s none image l =
     with_it (Some Trimming) none x shows = shows
     with_it (Some (Storing group)) none x shows = absurd none
 
--- of one where the same is
-pub shows_as : {D : Type 0} (old new : CommitterState D) → IsKept old new → (image : List ℕ)
+-- the same for a committer in which the same is committed
+pub shows_as : {D : Type 0} (old new : CommitterState D) → SameIdle old new → (image : List ℕ)
     → MayLeave new image → ShowsCommitted old image
 shows_as old new kept image l =
     subst (λ (x : Sizes × (List (Row (List ℕ)) × ℕ)). ShowsCache x.0 x.1.0 x.1.1 image)
@@ -77,7 +77,7 @@ module _ {D : Type 0} (old : CommitterState D) (sound : old.broken ≡ false)
   left_is : old.left ≡ Cut (root_at old.sizes (roots_of_rows old.rows)) ∷ []
   left_is = ap (λ (c : CommitterState D). c.left) begun
 
-  pub kept_itself : IsKept old old
+  pub kept_itself : SameIdle old old
   kept_itself = record {
     sizes = refl;
     rows = refl;
@@ -101,7 +101,7 @@ module _ {D : Type 0} (old : CommitterState D) (sound : old.broken ≡ false)
       absurd (omega (arith, last, two))
 
   pub kept_first : (mid : CommitterState D)
-      → mid ≡ record old { disk = mid.disk; left = Store [] ∷ [] } → IsKept old mid
+      → mid ≡ record old { disk = mid.disk; left = Store [] ∷ [] } → SameIdle old mid
   kept_first mid is = record {
     sizes = ap (λ (c : CommitterState D). c.sizes) is;
     rows = ap (λ (c : CommitterState D). c.rows) is;
@@ -177,7 +177,7 @@ module _ {D : Type 0} (contents : List ℕ) (front : FrontState) (committer : Co
   pub roots_told : (result : Result ℕ OpenFault)
       → IfOk result (λ roots. roots ≡ roots_of_rows committer.rows)
       → (IsErr result → result ≡ Err open_fault.Device)
-      → GoesByVerdict (Uses contents) result (verdict contents)
+      → FollowsVerdict (Uses contents) result (verdict contents)
   roots_told (Ok roots) told device = record {
     told = s;
     verdict_is = opens.verdict_is;
@@ -187,7 +187,7 @@ module _ {D : Type 0} (contents : List ℕ) (front : FrontState) (committer : Co
     };
   }
   roots_told (Err f) told device =
-      subst (λ (r : Result ℕ OpenFault). GoesByVerdict (Uses contents) r (verdict contents))
+      subst (λ (r : Result ℕ OpenFault). FollowsVerdict (Uses contents) r (verdict contents))
       (sym (device refl)) tt
 
   pub trimmed_so : (roots : ℕ) (left : List ℕ) → roots ≡ roots_of_rows committer.rows
@@ -209,7 +209,7 @@ pub of_ok : {T E : Type 0} (r : Result T E) (P : T → Type 0) (x : T) → r ≡
 of_ok (Ok y) P x e p = subst P (cc) p
 of_ok (Err f) P x e p = absurd (cc)
 
--- all is done only where the roots are told
+-- the status is done only if the number of roots is returned
 pub done_roots : (held holds : Option (List ℕ)) (roots : Result ℕ OpenFault)
     (r : Result Status MaintenanceFault)
     → Writes held holds (told roots_line roots) (status_of roots) r

@@ -15,7 +15,7 @@ use Rattle.cm_state.specs.State.{ByName, Shows, classes_of, loaders_among}
 use Rattle.cm_maintenance.specs.declared.listing.ListedClass.{ListedClass}
 use Rattle.cm_maintenance.specs.declared.gathered.Gathered.{Gathered}
 use Rattle.cm_maintenance.specs.Listing.{placed, listed_shows, listing}
-use Rattle.cm_maintenance.specs.Gathered.{by_bytes, with_entry, kept_of, Adds}
+use Rattle.cm_maintenance.specs.Gathered.{by_bytes, entry_put, kept_of, Adds}
 use Rattle.cm_maintenance.specs.Gathered.{Gathers, numbers_among}
 use Rattle.cm_maintenance.proofs.Entries.{entries-empty, put-map}
 
@@ -38,7 +38,7 @@ none_gathered numbers classes g no_number no_class numbers_are classes_are = rec
 pub one_more : (row : Row (List ℕ)) (rows : List (Row (List ℕ))) (old new : Gathered)
     → Adds row old new → Gathers rows old → Gathers (row ∷ rows) new
 one_more (Loader r) rows old new adds had = record {
-  numbers = adds.0 ∙ (ap (with_entry r.name r.number) had.numbers
+  numbers = adds.0 ∙ (ap (entry_put r.name r.number) had.numbers
       ∙ sym (entries-insert nat_list_cmp_total (numbers_among rows) r.name r.number));
   classes = λ u. ap (λ (m : BTreeMap ℕ (BTreeMap (Vec ℕ) ListedClass)). kept_of m u) adds.1
       ∙ had.classes u;
@@ -53,17 +53,17 @@ one_more (Class r words) rows old new adds had = record {
 
     by_test : (u : ℕ) (t : Bool)
         → kept_of old.classes u ≡ entries (classes_of listed_shows u (placed rows))
-        → cond t (with_entry (class_name_in words) c (kept_of old.classes u))
+        → cond t (entry_put (class_name_in words) c (kept_of old.classes u))
         (kept_of old.classes u)
         ≡ entries (cond t (insert (classes_of listed_shows u (placed rows)) (class_name_in words) c)
         (classes_of listed_shows u (placed rows)))
     by_test u true kept =
-        ap (with_entry (class_name_in words) c) kept
+        ap (entry_put (class_name_in words) c) kept
         ∙ sym (entries-insert nat_list_cmp_total (classes_of listed_shows u (placed rows))
         (class_name_in words) c)
     by_test u false kept = kept
 
--- the rows behind those that are left are gathered
+-- the rows after those that are left are gathered
 pub record IsGathering (rows left : List (Row (List ℕ))) (g : Gathered) : Type 0 where
   pub done : List (Row (List ℕ))
   pub all : rows ≡ left ++ done
@@ -100,7 +100,7 @@ loaders_numbered {A} shows all [] =
 loaders_numbered {A} shows all (Loader r ∷ rows) =
     entries-insert nat_list_cmp_total (loaders_among shows all rows) r.name
     (classes_of shows r.number all)
-    ∙ (ap (with_entry r.name (classes_of shows r.number all)) (loaders_numbered shows all rows)
+    ∙ (ap (entry_put r.name (classes_of shows r.number all)) (loaders_numbered shows all rows)
     ∙ (sym (put-map (λ (u : ℕ). classes_of shows u all) r.name r.number
     (entries (numbers_among rows)))
     ∙ ap (map (λ (e : List ℕ × ℕ). (e.0, classes_of shows e.1 all)))

@@ -11,7 +11,7 @@ use Rattle.cm_layout.specs.declared.row.Row.TheVariants.{Loader, Class}
 use Rattle.cm_state.specs.State.{ByName, Shows, classes_of, loaders_among, words_show}
 use Rattle.cm_maintenance.specs.declared.listing.ListedClass.{ListedClass}
 use Rattle.cm_maintenance.specs.Listing.{placed, listed_shows, in_order}
-use Rattle.cm_maintenance.specs.Gathered.{with_entry, numbers_among}
+use Rattle.cm_maintenance.specs.Gathered.{entry_put, numbers_among}
 use Rattle.cm_maintenance.specs.Laws.{without_places, ListsState}
 use Rattle.cm_maintenance.proofs.Entries.{entries-empty, put-map}
 use Rattle.cm_maintenance.proofs.Orders.{loaders_numbered, same_numbers, each_same}
@@ -46,11 +46,11 @@ records_of u (Class r words ∷ rows) = by_test (eqb r.loader u) (records_of u r
         ap (map (λ (e : List ℕ × ListedClass). (e.0, record_of e.1)))
         (entries-insert nat_list_cmp_total here (class_name_in words) c)
         ∙ (put-map record_of (class_name_in words) c (entries here)
-        ∙ (ap (with_entry (class_name_in words) words) rest
+        ∙ (ap (entry_put (class_name_in words) words) rest
         ∙ sym (entries-insert nat_list_cmp_total there (class_name_in words) words)))
     by_test false rest = rest
 
--- and in a list
+-- the same in a list
 values_without : (u : ℕ) (rows : List (Row (List ℕ)))
     → map record_of (values (classes_of listed_shows u (placed rows)))
     ≡ values (classes_of words_show u rows)

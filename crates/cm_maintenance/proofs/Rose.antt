@@ -1,4 +1,4 @@
--- Runs of which it isn't said here when they tell a fault: only that failures rise or stay.
+-- Runs for which it isn't said here when they report a fault: only that failures rise or stay.
 -- For `check_to`, `list_to`.
 use Rattle.std.proofs.Common.{◌≡◌, ◌<◌, ◌≤◌, ℕ, arith}
 use Rattle.cm_disk.specs.Disk.{View}

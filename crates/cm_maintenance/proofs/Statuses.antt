@@ -1,4 +1,4 @@
--- A file that isn't opened is never told of with `Done`.
+-- The status for a file that isn't opened is never `Done`.
 -- For `list_to`, `trim_to`.
 use Rattle.std.proofs.Common.{◌≡◌, ◌∙◌, ℕ, List, Option, Result, Ok, Err, sym}
 use Rattle.cm_recover.specs.declared.fault.OpenFault.{OpenFault}

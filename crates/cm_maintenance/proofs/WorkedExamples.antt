@@ -1,4 +1,4 @@
--- The definitions computed on what is told.
+-- The definitions computed on what is reported.
 use Rattle.std.proofs.Common.{◌≡◌, [], ◌∷◌, ◌++◌, refl}
 use Rattle.std.specs.Prelude.{codes}
 use Rattle.std.specs.Fmt.{digits}

@@ -18,28 +18,28 @@ use Rattle.cm_maintenance.specs.Listing.{placed, listed_shows}
 abbrev pub by_bytes : {X : Type 0} → List (Vec ℕ × X) → List (List ℕ × X)
 by_bytes es = map_list (λ e. (e.0.items, e.1)) es
 
--- with one more in its place
-abbrev pub with_entry : {X : Type 0} → List ℕ → X → List (List ℕ × X) → List (List ℕ × X)
-with_entry name x es = map.put (slice_cmp nat_cmp) name x es
+-- the entries with one more in its place
+abbrev pub entry_put : {X : Type 0} → List ℕ → X → List (List ℕ × X) → List (List ℕ × X)
+entry_put name x es = map.put (slice_cmp nat_cmp) name x es
 
 -- the classes that are kept of a loader
-abbrev pub kept_in : {X : Type 0} → Option (BTreeMap (Vec ℕ) X) → List (List ℕ × X)
-kept_in None = []
-kept_in (Some classes) = by_bytes classes.entries
+abbrev pub classes_kept : {X : Type 0} → Option (BTreeMap (Vec ℕ) X) → List (List ℕ × X)
+classes_kept None = []
+classes_kept (Some classes) = by_bytes classes.entries
 
 abbrev pub kept_of : {X : Type 0} → BTreeMap ℕ (BTreeMap (Vec ℕ) X) → ℕ → List (List ℕ × X)
-kept_of classes u = kept_in (tree.get nat_cmp classes u)
+kept_of classes u = classes_kept (tree.get nat_cmp classes u)
 
--- one class more in the loader of this number
+-- one more class in the loader of this number
 pub record AddsClass {X : Type 0} (old new : BTreeMap ℕ (BTreeMap (Vec ℕ) X)) (u : ℕ)
     (name : List ℕ) (c : X) : Type 0 where
   pub each : (v : ℕ) → kept_of new v
-      ≡ (if u == v then with_entry name c (kept_of old v) else kept_of old v)
+      ≡ (if u == v then entry_put name c (kept_of old v) else kept_of old v)
 
--- one row more
+-- one more row
 abbrev pub Adds : Row (List ℕ) → Gathered → Gathered → Type 0
 Adds (Loader r) old new =
-    (by_bytes new.numbers.entries ≡ with_entry r.name r.number (by_bytes old.numbers.entries))
+    (by_bytes new.numbers.entries ≡ entry_put r.name r.number (by_bytes old.numbers.entries))
     × (new.classes ≡ old.classes)
 Adds (Class r words) old new =
     (new.numbers ≡ old.numbers)

@@ -1,4 +1,4 @@
--- What is listed of rows: the entries of their state, which is a map in byte order of names. Of
+-- What is listed of rows: the entries of their state, which is a map in byte order of names. For
 -- each class its record is listed, and its row's place.
 use Rattle.std.specs.Prelude.{ℕ, List, length, map as map_list}
 use Rattle.std.specs.FinMap as map
@@ -9,7 +9,7 @@ use Rattle.cm_state.specs.State.{Loaders, Shows, state_of}
 use Rattle.cm_maintenance.specs.declared.listing.ListedClass.{ListedClass}
 use Rattle.cm_maintenance.specs.declared.listing.ListedLoader.{ListedLoader}
 
--- rows, each class with its row's place beside its record's words
+-- rows, each class with its row's place and its record's words
 abbrev pub placed_row : Row (List ℕ) → Row ListedClass
 placed_row (Loader r) = Loader r
 placed_row (Class r words) = Class r (record { class = words; place = r.place })
@@ -29,6 +29,6 @@ in_order m = map_list (λ l. (l.0, map.values l.1)) (map.entries m)
 abbrev pub listing : List (Row (List ℕ)) → List (List ℕ × List ListedClass)
 listing rows = in_order (state_of listed_shows (placed rows))
 
--- a list in memory
+-- a list in memory, as its contents
 abbrev pub shown : List ListedLoader → List (List ℕ × List ListedClass)
 shown list = map_list (λ l. (l.name.items, l.classes.items)) list

@@ -19,7 +19,7 @@ abbrev pub chunk_count : Arenas → ℕ
 chunk_count arenas = chunks_together (map.entries arenas)
 
 -- the report counts this state, these arenas and this number
-pub record Counts (m : CacheState) (arenas : Arenas) (n : ℕ) (report : Report) : Type 0 where
+pub record ReportCounts (m : CacheState) (arenas : Arenas) (n : ℕ) (report : Report) : Type 0 where
   pub loaders : report.loaders ≡ map.len m
   pub classes : report.loaders + report.classes ≡ size m
   pub chunks : report.chunks ≡ chunk_count arenas
@@ -28,7 +28,7 @@ pub record Counts (m : CacheState) (arenas : Arenas) (n : ℕ) (report : Report)
 -- the contents stand for what the verdict says, and the report counts that
 pub record Reports (contents : List ℕ) (report : Report) (s : Standing) : Type 0 where
   pub stands : Stands s.found.sizes contents (state_in s) (arenas_in s) s.found.number
-  pub counts : Counts (state_in s) (arenas_in s) s.found.number report
+  pub counts : ReportCounts (state_in s) (arenas_in s) s.found.number report
 
 -- ---- by rows
 

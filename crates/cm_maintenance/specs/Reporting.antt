@@ -1,4 +1,4 @@
--- What comes of a report on a file: the lines that are written, the status, and the disk.
+-- The result of a report on a file: the lines that are written, the status, and the disk.
 use Rattle.std.specs.Prelude.{◌≡◌, ℕ, List, Option, Result, Ok, Err}
 use Rattle.std.specs.Io.KnownBytes.{Appends}
 use Rattle.cm_record.specs.Layout.{lay}
@@ -7,7 +7,7 @@ use Rattle.cm_state.specs.Stands.{Stands}
 use Rattle.cm_verdict.specs.Verdict.{Standing, state_in, arenas_in, verdict}
 use Rattle.cm_recover.specs.declared.fault.OpenFault.{OpenFault}
 use Rattle.cm_recover.specs.declared.fault.OpenFault.TheVariants as open_fault
-use Rattle.cm_recover.specs.Standing.{GoesByVerdict}
+use Rattle.cm_recover.specs.Standing.{FollowsVerdict}
 use Rattle.cm_maintenance.specs.Report.{Reports}
 use Rattle.cm_maintenance.specs.declared.listing.ListedClass.{ListedClass}
 use Rattle.cm_maintenance.specs.Listing.{listing}
@@ -27,12 +27,12 @@ abbrev pub status_in : {D : Type 0} → Result (Status × D) (NotReported D)
 status_in (Ok given) = Ok given.0
 status_in (Err not_reported) = Err not_reported.fault
 
--- the disk that is given back
+-- the disk that is handed back
 abbrev pub disk_left : {D : Type 0} → Result (Status × D) (NotReported D) → D
 disk_left (Ok given) = given.1
 disk_left (Err not_reported) = not_reported.disk
 
--- ---- what is printed of an answer
+-- ---- what is printed for a result
 
 -- refused if the file has a fault, failed if the device or an allocation did
 abbrev pub fault_status : OpenFault → Status
@@ -49,21 +49,21 @@ abbrev pub status_of : {A : Type 0} → Result A OpenFault → Status
 status_of (Ok value) = status.Done
 status_of (Err f) = fault_status f
 
--- These lines are written, and nothing else, and the status is given. If the writer failed, a
--- beginning of them is written; if an allocation did, nothing.
+-- These lines are written, and nothing else, and the status is returned. If the writer failed, a
+-- beginning of them is written; if an allocation failed, nothing.
 abbrev pub Writes : Option (List ℕ) → Option (List ℕ) → List ℕ → Status
     → Result Status MaintenanceFault → Type 0
 Writes held holds lines status (Ok given) = (given ≡ status) × Appends held holds lines
 Writes held holds lines status (Err fault.Output) = WritesPart held holds lines
 Writes held holds lines status (Err fault.NoMemory) = holds ≡ held
 
--- Of a file with these contents the verdict is returned, or that the device or an allocation
--- failed: the device only if it did. The lines and the status are those of that answer.
-pub record Tells {A : Type 0} (Alike : A → Standing → Type 0) (lines : A → List ℕ)
+-- For a file with these contents the result is the verdict, or that the device or an allocation
+-- failed: the device only if it did. The lines and the status are those of that result.
+pub record ReportsAnswer {A : Type 0} (Alike : A → Standing → Type 0) (lines : A → List ℕ)
     (contents : List ℕ) (Failed : Type 0) (held holds : Option (List ℕ))
     (result : Result Status MaintenanceFault) : Type 0 where
   pub answer : Result A OpenFault
-  pub answers : GoesByVerdict Alike answer (verdict contents)
+  pub answers : FollowsVerdict Alike answer (verdict contents)
   pub device : answer ≡ Err open_fault.Device → Failed
   pub written : Writes held holds (told lines answer) (status_of answer) result
 
@@ -73,7 +73,7 @@ abbrev pub ChecksTo : List ℕ → Type 0 → Option (List ℕ) → Option (List
     → Result Status MaintenanceFault
     → Type 0
 ChecksTo contents Failed held holds result =
-    Tells (Reports contents) report_line contents Failed held holds result
+    ReportsAnswer (Reports contents) report_line contents Failed held holds result
 
 -- ---- listing
 
@@ -88,4 +88,4 @@ abbrev pub ListsTo : List ℕ → Type 0 → Option (List ℕ) → Option (List 
     → Result Status MaintenanceFault
     → Type 0
 ListsTo contents Failed held holds result =
-    Tells (Lists contents) list_lines contents Failed held holds result
+    ReportsAnswer (Lists contents) list_lines contents Failed held holds result

@@ -1,4 +1,4 @@
--- The lines that tell what a file holds, or why it isn't opened, each with its newline.
+-- The lines that say what a file holds, or why it isn't opened, each with its newline.
 use Rattle.std.specs.Prelude.{ℕ, ◌+◌, List, [], ◌∷◌, ◌++◌, length, codes}
 use Rattle.std.specs.List.{flat_map}
 use Rattle.std.specs.Fmt.{decimal}

@@ -1,4 +1,4 @@
--- What comes of trimming a file: it is truncated after the last root that its rows use, and stands
+-- The result of trimming a file: it is truncated after the last root that its rows use, and stands
 -- for the same cache at each moment.
 use Rattle.std.specs.Prelude.{◌≡◌, ◌≤◌, ℕ, min, List, length, Option, Result, Ok}
 use Rattle.cm_pool.specs.Geometry.{Sizes}
@@ -12,13 +12,13 @@ use Rattle.cm_commit.specs.States.{CommitterState, NoGroup}
 use Rattle.cm_commit.specs.Trims.{roots_of_rows}
 use Rattle.cm_maintenance.specs.declared.fault.MaintenanceFault.{MaintenanceFault}
 use Rattle.cm_maintenance.specs.declared.status.Status.{Status}
-use Rattle.cm_maintenance.specs.Reporting.{Tells}
+use Rattle.cm_maintenance.specs.Reporting.{ReportsAnswer}
 use Rattle.cm_maintenance.specs.Texts.{roots_line}
 
 -- ---- a committer
 
--- the same is committed, and no group is under way
-pub record IsKept {D : Type 0} (old new : CommitterState D) : Type 0 where
+-- what is committed is the same, and no group is under way
+pub record SameIdle {D : Type 0} (old new : CommitterState D) : Type 0 where
   pub sizes : new.sizes ≡ old.sizes
   pub rows : new.rows ≡ old.rows
   pub number : new.number ≡ old.number
@@ -41,9 +41,9 @@ pub record Uses (contents : List ℕ) (roots : ℕ) (s : Standing) : Type 0 wher
 abbrev pub TrimsTo : List ℕ → Type 0 → Option (List ℕ) → Option (List ℕ)
     → Result Status MaintenanceFault → Type 0
 TrimsTo contents Failed held holds result =
-    Tells (Uses contents) roots_line contents Failed held holds result
+    ReportsAnswer (Uses contents) roots_line contents Failed held holds result
 
--- the contents stand for a cache; these hold no root after those that its rows use
+-- the contents stand for a cache; `left` holds no root after those that its rows use
 pub record IsTrimmed (contents left : List ℕ) : Type 0 where
   pub standing : Standing
   pub verdict_is : verdict contents ≡ Ok standing

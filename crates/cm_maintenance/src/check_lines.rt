@@ -1,4 +1,4 @@
-//! Telling whether a cache would open from a file.
+//! Reports whether a cache would open from a file.
 
 ghost use Rattle.std.specs.Prelude.{◌<◌};
 ghost use Rattle.cm_guards.specs.Calls.{Reads};
@@ -16,10 +16,10 @@ use cm_recover::OpenFault;
 use std::alloc::Global;
 use std::io::Write;
 
-/// Writes what the cache holds that would open from this file, or why none would, and gives the
-/// status and the disk: `ok loaders L classes C chunks K number N` with `Done`, `not a cache` or
-/// `damaged KIND SLOT` with `Refused`, `device` or `memory` with `Failed`. The file is only read,
-/// and nothing is synced.
+/// Writes what the cache that would open from this file holds, or why none would open, and returns
+/// the status and the disk: `ok loaders L classes C chunks K number N` with `Done`, `not a cache`
+/// or `damaged KIND SLOT` with `Refused`, `device` or `memory` with `Failed`. The file is only
+/// read, and nothing is synced.
 ///
 /// It is an `Err` if the writer fails (`Output`), or an allocation failed for the line
 /// (`NoMemory`).

@@ -21,6 +21,6 @@ pub enum MaintenanceFault {
 #[error_bound(D: Debug + Drop)]
 pub struct NotReported<D> {
     pub fault: MaintenanceFault,
-    /// With the contents that it had, but for what a trim or an upgrade has done by then.
+    /// With its original contents, except for what a trim or an upgrade has done by then.
     pub disk: D,
 }

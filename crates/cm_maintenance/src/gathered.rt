@@ -1,20 +1,20 @@
-//! Rows, gathered by names: loaders by theirs, and the classes of each loader by theirs.
+//! Rows gathered by name: loaders by their names, and the classes of each loader by theirs.
 
 ghost use Rattle.std.specs.Prelude.{◌≡◌, map, None, IfOk, OnOk};
 ghost use Rattle.std.specs.BTreeMap.{UpdatesBy, values};
 ghost use Rattle.std.specs.Ordering.{nat_cmp};
 ghost use Rattle.cm_record.specs.Names.{class_name_in};
-ghost use Rattle.cm_maintenance.specs.Gathered.{by_bytes, with_entry, kept_of, Adds, AddsClass};
+ghost use Rattle.cm_maintenance.specs.Gathered.{by_bytes, entry_put, kept_of, Adds, AddsClass};
 ghost use Rattle.cm_maintenance.specs.Gathered.{Gathers};
 
 use crate::listing::ListedClass;
+use cm_commands::Prepared;
 use cm_layout::{ClassRow, LoaderRow, Row};
-use cm_prepare::Prepared;
-use cm_rows::Book;
+use cm_rows::LiveRows;
 use std::alloc::{AllocError, Global};
 use std::collections::BTreeMap;
 
-/// Rows by names. Maps keep them in byte order.
+/// Rows by name. Maps keep them in byte order.
 #[derive(Drop)]
 pub(crate) struct Gathered {
     /// The numbers of loaders, by their names.
@@ -26,7 +26,7 @@ pub(crate) struct Gathered {
 impl Gathered {
     fn add_loader(&mut self, alloc: Global, row: &LoaderRow) -> Result<(), AllocError>
         ensures numbers { OnOk result (by_bytes self.new.numbers.entries
-            ≡ with_entry row.now.name row.now.number (by_bytes self.old.numbers.entries)) }
+            ≡ entry_put row.now.name row.now.number (by_bytes self.old.numbers.entries)) }
         ensures classes { self.new.classes ≡ self.old.classes }
     {
         let name = Vec::from_slice(alloc, row.name.as_bytes())?;
@@ -34,7 +34,7 @@ impl Gathered {
         Ok(())
     }
 
-    // The classes of a loader, taken out.
+    // Takes the classes of a loader out.
     fn take_classes(&mut self, alloc: Global, number: u64) -> BTreeMap<Vec<u8>, ListedClass>
         ensures taken { by_bytes result.entries ≡ kept_of self.old.classes number }
         ensures updates { UpdatesBy nat_cmp (nat_cmp number) self.old.classes
@@ -68,7 +68,7 @@ impl Gathered {
         Ok(())
     }
 
-    // Adds a row in front of those that were gathered.
+    // Adds a row that comes before those already gathered.
     fn add(&mut self, alloc: Global, row: &Row<Prepared>) -> Result<(), AllocError>
         ensures { OnOk result (Adds row.now self.old self.new) }
     {
@@ -79,10 +79,10 @@ impl Gathered {
     }
 }
 
-// The rows of a book, one after another.
+// The rows, one after another.
 fn rows_of<'a>(
     alloc: Global,
-    book: &'a Book<Prepared>,
+    book: &'a LiveRows<Prepared>,
 ) -> Result<Vec<&'a Row<Prepared>>, AllocError>
     ensures { IfOk result (λ rows. map (λ r. r.now) rows.items ≡ book.now.rows) }
 {
@@ -94,8 +94,8 @@ fn rows_of<'a>(
     Ok(rows)
 }
 
-/// The rows of a book, from the last to the first: if two have one name, the first stays.
-pub(crate) fn gather(alloc: Global, book: &Book<Prepared>) -> Result<Gathered, AllocError>
+/// Gathers rows from the last to the first: if two have the same name, the first one stays.
+pub(crate) fn gather(alloc: Global, book: &LiveRows<Prepared>) -> Result<Gathered, AllocError>
     ensures { IfOk result (Gathers book.now.rows) }
 {
     let mut gathered = Gathered {

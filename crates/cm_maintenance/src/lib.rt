@@ -1,4 +1,4 @@
-//! Checks, lists and truncates cache files, and writes what each finds as lines.
+//! Checks, lists and truncates cache files, and writes the results as lines.
 #![tactic(auto)]
 
 mod check_lines;

@@ -1,7 +1,7 @@
-//! Telling the loaders and classes of a file's cache.
+//! Lists the loaders and classes of a file's cache.
 
 ghost use Rattle.std.specs.Prelude.{◌≡◌, ◌<◌, Ok};
-ghost use Rattle.cm_disk.specs.Disk.{IsSettled};
+ghost use Rattle.cm_disk.specs.Disk.{IsDurable};
 ghost use Rattle.cm_recover.specs.Opened.{OpensThrough};
 ghost use Rattle.cm_maintenance.specs.Listing.{listing};
 ghost use Rattle.cm_maintenance.specs.Texts.{list_lines};
@@ -18,11 +18,12 @@ use cm_recover::{NotOpened, open};
 use std::alloc::Global;
 use std::io::Write;
 
-/// Writes which loaders and classes the cache of a file has, or why it isn't opened, and gives the
-/// status and the disk: in byte order of their names `loader NAME`, and after each those of its
-/// classes, `class CLASS words W root R at P`, with `Done`; of a file that isn't opened what
-/// [`crate::check_to`] writes. The file is opened as for a script, with a sync, so no crash takes
-/// back what is listed. Nothing is written to it, unless it is of version 1: then it is upgraded.
+/// Writes which loaders and classes the cache of a file has, or why it isn't opened, and returns
+/// the status and the disk: `loader NAME` for each loader in byte order of their names, and after
+/// it `class CLASS words W root R at P` for each of its classes, with `Done`; for a file that isn't
+/// opened, what [`crate::check_to`] writes. The file is opened as for a script, with a sync, so no
+/// crash undoes what is listed. Nothing is written to it, unless it is of version 1: then it is
+/// upgraded.
 ///
 /// It is an `Err` if the writer fails (`Output`), or an allocation failed for the lines
 /// (`NoMemory`).
@@ -35,7 +36,7 @@ pub fn list_to<W: Write, D: Disk>(
         (disk_left result))
         (W.contents writer.old) (W.contents writer.new) (status_in result) }
     ensures stored { status_in result ≡ Ok Status.Done
-        → IsSettled (D.view.contents (disk_left result)) (D.view.unsynced (disk_left result)) }
+        → IsDurable (D.view.contents (disk_left result)) (D.view.unsynced (disk_left result)) }
     ensures run { OpensThrough D.view disk
         (disk_left result) (D.view.failures disk < D.view.failures (disk_left result)) }
 {

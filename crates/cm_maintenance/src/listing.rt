@@ -4,10 +4,10 @@ ghost use Rattle.std.specs.Prelude.{◌≡◌, IfOk};
 ghost use Rattle.cm_maintenance.specs.Listing.{listing, shown};
 
 use crate::gathered::{Gathered, classes_of, gather};
+use cm_commands::Prepared;
 use cm_front::Front;
 use cm_pool::Place;
-use cm_prepare::Prepared;
-use cm_rows::Book;
+use cm_rows::LiveRows;
 use std::alloc::{AllocError, Global};
 
 /// A live class: its record, and its place.
@@ -18,7 +18,7 @@ pub struct ListedClass {
 }
 
 impl ListedClass {
-    /// The same class once more, by the same record.
+    /// The same class again, with the same record.
     pub(crate) fn share(&self) -> Result<ListedClass, AllocError>
         ensures { IfOk result (λ c. c ≡ self.now) }
     {
@@ -40,9 +40,9 @@ pub struct ListedLoader {
 /// The loaders and classes of rows, in byte order of their names: each class with its record and
 /// the place of its row.
 ///
-/// The time goes with the rows times the logarithm of their number, and the lengths of the names.
-/// It is an `Err` if an allocation failed.
-pub fn list(alloc: Global, rows: &Book<Prepared>) -> Result<Vec<ListedLoader>, AllocError>
+/// The time is proportional to the number of rows times its logarithm, and to the lengths of the
+/// names. It is an `Err` if an allocation failed.
+pub fn list(alloc: Global, rows: &LiveRows<Prepared>) -> Result<Vec<ListedLoader>, AllocError>
     ensures { IfOk result (λ list. shown list.items ≡ listing rows.now.rows) }
 {
     let Gathered {
@@ -57,7 +57,7 @@ pub fn list(alloc: Global, rows: &Book<Prepared>) -> Result<Vec<ListedLoader>, A
     Ok(list)
 }
 
-/// The loaders and classes that are accepted, as [`list`] has them.
+/// The accepted loaders and classes, as [`list`] returns them.
 pub fn list_accepted(alloc: Global, front: &Front) -> Result<Vec<ListedLoader>, AllocError>
     ensures { IfOk result (λ list. shown list.items ≡ listing front.now.rows) }
 {

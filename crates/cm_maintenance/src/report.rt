@@ -1,17 +1,17 @@
-//! What a check reports that a file holds.
+//! What a check reports about a file.
 
 ghost use Rattle.std.specs.Prelude.{◌≡◌, ◌+◌, ◌<◌, ◌≤◌, ◌^◌, ◌∷◌, [], length};
 ghost use Rattle.cm_layout.specs.Rows.{numbers_in, classes_in};
 ghost use Rattle.cm_maintenance.specs.Report.{first_records, IsCount};
 
+use cm_commands::Prepared;
 use cm_layout::Row;
-use cm_prepare::Prepared;
-use cm_rows::Book;
+use cm_rows::LiveRows;
 
 /// What a file holds that stands for a cache.
 #[derive(Clone, Copy, Debug, PartialEq, Eq)]
 pub struct Report {
-    /// How many loaders live.
+    /// How many live loaders there are.
     pub loaders: usize,
     /// How many classes they have together.
     pub classes: usize,
@@ -22,7 +22,7 @@ pub struct Report {
 }
 
 impl Report {
-    // With one row more. A chunk counts where its first record does.
+    // The same with one more row. A chunk is counted with its first record.
     fn with_row(self, row: &Row<Prepared>) -> Report
         requires room { self.loaders + self.classes + 1 < 2 ^ 64 }
         requires chunks { self.chunks ≤ self.classes }
@@ -47,7 +47,7 @@ impl Report {
 }
 
 /// What these rows hold after the command of this number.
-pub(crate) fn count(rows: &Book<Prepared>, number: u64) -> Report
+pub(crate) fn count(rows: &LiveRows<Prepared>, number: u64) -> Report
     ensures { IsCount rows.now.rows number result }
 {
     let _rows = rows.len(); // so the proof knows that no sum is too great

@@ -1,17 +1,17 @@
-//! What comes of a run, and the number that it ends with.
+//! The result of a run, and the number that it ends with.
 
 ghost use Rattle.std.specs.Prelude.{◌≡◌};
 
-/// What came of all that a run was to do.
+/// The result of all that a run was to do.
 #[derive(Clone, Copy, Debug, PartialEq, Eq)]
 pub enum Status {
     /// All was done.
     Done,
     /// A line was refused, a file is no cache or damaged, or a name is taken.
     Refused,
-    /// The words of the command line ask for nothing that can be done.
+    /// The words of the command line request nothing that can be done.
     WrongWords,
-    /// The device, memory, the input or the output failed.
+    /// The device, an allocation, the input or the output failed.
     Failed,
 }
 

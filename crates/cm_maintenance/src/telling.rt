@@ -1,4 +1,4 @@
-//! Writing reports, and the statuses that go with them.
+//! Writes reports, and determines their statuses.
 
 ghost use Rattle.std.specs.Prelude.{◌≡◌, IfOk};
 ghost use Rattle.cm_maintenance.specs.Texts.{fault_line};
@@ -12,7 +12,7 @@ use cm_recover::OpenFault;
 use std::alloc::Global;
 use std::io::Write;
 
-/// Writes lines, and gives the status that goes with them.
+/// Writes lines, and returns their status.
 pub(crate) fn tell<W: Write>(
     writer: &mut W,
     lines: &[u8],
@@ -26,8 +26,8 @@ pub(crate) fn tell<W: Write>(
     }
 }
 
-/// Writes why a file isn't opened, and gives the status, as [`crate::check_to`] does. Only a
-/// damage's line takes memory.
+/// Writes why a file isn't opened, and returns the status, as [`crate::check_to`] does. Only the
+/// line for a damage needs an allocation.
 pub fn tell_fault<W: Write>(
     alloc: Global,
     writer: &mut W,
@@ -47,7 +47,7 @@ pub fn tell_fault<W: Write>(
     }
 }
 
-/// What came of a report, with the disk.
+/// The result of a report, with the disk.
 pub(crate) fn with_disk<D>(
     status: Result<Status, MaintenanceFault>,
     disk: D,

@@ -1,4 +1,4 @@
-//! The lines that tell what a file holds, or why it isn't opened.
+//! The lines that say what a file holds, or why it isn't opened.
 
 ghost use Rattle.std.specs.Prelude.{◌≡◌, ◌+◌, ◌++◌, [], ◌∷◌, IfOk, OnOk};
 ghost use Rattle.std.specs.Fmt.{decimal};

@@ -1,4 +1,4 @@
-//! Trimming a file, and telling how many roots it has then.
+//! Trims a file, and reports how many roots it then has.
 
 ghost use Rattle.std.specs.Prelude.{◌≡◌, ◌<◌, Ok};
 ghost use Rattle.cm_guards.specs.Calls.{LeavesOnly};
@@ -19,8 +19,8 @@ use std::alloc::Global;
 use std::io::Write;
 
 /// Truncates the file of a cache after the last root that its rows use, if it holds whole roots
-/// after that, and gives the status and the disk. It writes `roots N`, the number of roots in use,
-/// with `Done`; of a file that isn't opened what [`crate::check_to`] writes; `device`, with
+/// after that, and returns the status and the disk. It writes `roots N`, the number of roots in
+/// use, with `Done`; for a file that isn't opened, what [`crate::check_to`] writes; `device`, with
 /// `Failed`, if the device fails.
 ///
 /// At each moment a crash leaves what it might have left before, or what stands for the same cache.

@@ -1,4 +1,4 @@
-//! Truncating a file after the last root that rows use.
+//! Truncates a file after the last root that rows use.
 
 ghost use Rattle.std.specs.Prelude.{◌≡◌, ◌≤◌, ◌<◌, false, length, IsErr, IfOk, OnOk, Ok, Err};
 ghost use Rattle.cm_guards.specs.Calls.{LeavesOnly};
@@ -6,7 +6,7 @@ ghost use Rattle.cm_layout.specs.Offsets.{root_at};
 ghost use Rattle.cm_commit.specs.States.{IsFree, ShowsCommitted, with_trim};
 ghost use Rattle.cm_commit.specs.Trims.{roots_of_rows};
 ghost use Rattle.cm_recover.specs.declared.fault.OpenFault.TheVariants as open_fault;
-ghost use Rattle.cm_maintenance.specs.Trimming.{IsKept, HasNoMore};
+ghost use Rattle.cm_maintenance.specs.Trimming.{SameIdle, HasNoMore};
 
 use cm_commit::{AdvanceFault, Committer};
 use cm_disk::Disk;
@@ -16,7 +16,7 @@ use cm_recover::OpenFault;
 fn cut<D: Disk>(committer: &mut Committer<D>) -> Result<(), AdvanceFault>
     requires sound { committer.old.broken ≡ false }
     requires begun { committer.old ≡ with_trim committer.old }
-    ensures kept { IsKept committer.old committer.new }
+    ensures kept { SameIdle committer.old committer.new }
     ensures moments { LeavesOnly D.view committer.old.disk committer.new.disk
         (ShowsCommitted committer.old) }
     ensures later { D.view.failures committer.old.disk ≤ D.view.failures committer.new.disk }
@@ -34,7 +34,7 @@ fn cut<D: Disk>(committer: &mut Committer<D>) -> Result<(), AdvanceFault>
 /// roots after that, and returns the number of roots that they use.
 pub(crate) fn trim_file<D: Disk>(committer: &mut Committer<D>) -> Result<u32, OpenFault>
     requires { IsFree committer.old }
-    ensures kept { IsKept committer.old committer.new }
+    ensures kept { SameIdle committer.old committer.new }
     ensures moments { LeavesOnly D.view committer.old.disk committer.new.disk
         (ShowsCommitted committer.old) }
     ensures later { D.view.failures committer.old.disk ≤ D.view.failures committer.new.disk }

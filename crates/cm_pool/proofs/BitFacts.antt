@@ -1,4 +1,4 @@
--- One bit of a list of words, and what a summary says of it.
+-- One bit in a list of words, and what a summary says about it.
 -- For `BitRow::first`, `BitRow::insert`, `BitRow::remove`, `lowest_bit`.
 use Rattle.std.proofs.Common.{◌≡◌, ◌≢◌, ℕ, ◌+◌, ◌*◌, ◌/◌, ◌%◌, ◌^◌, ◌<◌, ◌≤◌, Bool, true, false}
 use Rattle.std.proofs.Common.{not, ◌||◌, ◌&&◌, eqb, List, length, replicate, bit_and}
@@ -14,7 +14,7 @@ use Rattle.std.proofs.lemmas.Bool.{cases_eq, cases_lt, eq-eqb, ne_eqb, eqb-true,
 use Rattle.cm_pool.specs.Bits.{word, bit, with_bit, without_bit, IsFirstBit, IsFirstWord, IsSummary}
 use Rattle.cm_pool.specs.Bits.{IsRow}
 
--- the one word that changes, and the others
+-- the word that changes, and the others
 pub word-with : (ws : List ℕ) (i : ℕ) → i < 64 * length ws
     → word (with_bit ws i) (i / 64) ≡ bit_or (word ws (i / 64)) (2 ^ (i % 64))
 word-with ws i h = get_or-set_same ws (i / 64) _ 0 (omega arith)
@@ -29,7 +29,7 @@ other-with ws i k other = get_or-set_other ws (i / 64) k _ 0 other
 pub other-without : (ws : List ℕ) (i k : ℕ) → k ≢ i / 64 → word (without_bit ws i) k ≡ word ws k
 other-without ws i k other = get_or-set_other ws (i / 64) k _ 0 other
 
--- in a word
+-- the same within a word
 in-with : (n k : ℕ) → k < 64 → bit_at (bit_or n (2 ^ k)) k ≡ 1
 in-with n k h = ap (λ m. bit_at (bit_or n m) k) (sym (one_shl k 64 h)) ∙ bit_at_set_same w64 n k h
 
@@ -84,7 +84,7 @@ bit-without_other ws i j h other =
       | inr apart ↦ ap (λ n. eqb (bit_at n (j % 64)) 1) (other-without ws i (j / 64) apart)
     ]
 
--- the same, up one equation
+-- the same as one equation
 pub bit-with : (ws : List ℕ) (i j : ℕ) → i < 64 * length ws
     → bit (with_bit ws i) j ≡ (eqb j i || bit ws j)
 bit-with ws i j h =
@@ -106,7 +106,7 @@ bit-without ws i j h =
           (λ b. not b && bit ws j) (sym (ne_eqb j i other))
     ]
 
--- where a word is 0 none of its bits is set
+-- if a word is 0, none of its bits is set
 pub bit-zero_word : (ws : List ℕ) (i : ℕ) → word ws (i / 64) ≡ 0 → bit ws i ≡ false
 bit-zero_word ws i e = ap (λ n. eqb (bit_at n (i % 64)) 1) e ∙ ap
     (λ b. eqb b 1) (bit_at-zero (i % 64))
@@ -136,7 +136,7 @@ with-some n k h e =
     let none : bit_at (bit_or n (2 ^ k)) k ≡ 0 = ap (λ m. bit_at m k) e ∙ bit_at-zero k in
     absurd (omega (arith, one, none))
 
--- a summary stays one where the same is set above
+-- a summary remains one if the same bit is set above
 pub summary-with : (ws up : List ℕ) (i : ℕ) → IsSummary ws up → i < 64 * length ws
     → IsSummary (with_bit ws i) (with_bit up (i / 64))
 summary-with ws up i h within =
@@ -159,7 +159,7 @@ summary-with ws up i h within =
       ];
     }
 
--- and where a word's last bit is cleared, with its bit above
+-- a summary remains one if a word's last bit is cleared, with its bit above
 pub summary-without : (ws up : List ℕ) (i : ℕ) → IsSummary ws up → i < 64 * length ws
     → word (without_bit ws i) (i / 64) ≡ 0 → IsSummary (without_bit ws i) (without_bit up (i / 64))
 summary-without ws up i h within none =
@@ -181,7 +181,7 @@ summary-without ws up i h within none =
       ];
     }
 
--- where others are left in the word, nothing changes above
+-- if other bits are left in the word, nothing changes above
 pub summary-left : (ws up : List ℕ) (i : ℕ) → IsSummary ws up → i < 64 * length ws
     → word (without_bit ws i) (i / 64) ≢ 0 → IsSummary (without_bit ws i) up
 summary-left ws up i h within some =
@@ -204,7 +204,7 @@ summary-left ws up i h within some =
       ];
     }
 
--- the first bit above tells the first word
+-- the first bit above determines the first word
 pub first-word : (ws up : List ℕ) (k : ℕ) → IsSummary ws up → IsFirstBit up k → IsFirstWord ws k
 first-word ws up k h f =
     let some : word ws k ≢ 0 = λ e. both_ways _ (h.each k ∙ ap (λ n. not (eqb n 0)) e) f.is_set in
@@ -224,7 +224,7 @@ first-word ws up k h f =
         turn true e = refl
         turn false e = sym e
 
--- where none is set above there is none
+-- if no bit is set above, none is set below
 pub no-bits : (ws up : List ℕ) → IsSummary ws up → ((k : ℕ) → word up k ≡ 0) → (k : ℕ)
     → word ws k ≡ 0
 no-bits ws up h none k = is_zero (word ws k) (sym (h.each k) ∙ bit-zero_word up k (none (k / 64)))
@@ -236,7 +236,7 @@ no-bits ws up h none k = is_zero (word ws k) (sym (h.each k) ∙ bit-zero_word u
     is_zero : (n : ℕ) → not (eqb n 0) ≡ false → n ≡ 0
     is_zero n e = eqb-true n 0 (turn (eqb n 0) e)
 
--- the lowest bit of the first word
+-- the lowest bit of the first word is the first bit
 pub lowest-first : (ws : List ℕ) (k n : ℕ) → IsFirstWord ws k → word ws k ≡ n → n < 2 ^ 64
     → IsFirstBit ws (64 * k + trailing_zeros w64 n)
 lowest-first ws k n f e small =
@@ -256,7 +256,7 @@ lowest-first ws k n f e small =
       ];
     }
 
--- no bit in words of 0
+-- words of 0 have no bit set
 pub summary-zeros : (n m : ℕ) → n ≤ 64 * m → IsSummary (replicate n 0) (replicate m 0)
 summary-zeros n m le =
     record {
@@ -267,7 +267,7 @@ summary-zeros n m le =
       ]));
     }
 
--- a row stays one
+-- a row remains one
 pub row-with : (ws gs hs : List ℕ) (i : ℕ) → IsRow ws gs hs → i < 64 * length ws
     → IsRow (with_bit ws i) (with_bit gs (i / 64)) (with_bit hs (i / 64 / 64))
 row-with ws gs hs i h within =

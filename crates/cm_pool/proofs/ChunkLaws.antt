@@ -18,7 +18,7 @@ use Rattle.cm_pool.proofs.FreeWords.{words-covers, restores}
 use Rattle.cm_pool.proofs.Spaces.{words-is_in}
 use Rattle.cm_pool.proofs.Pools.{block_of, same-block_of}
 
--- a chunk covers what its block has
+-- a chunk covers the words of its block
 pub covers-in : (top roots : ℕ) (c : Chunk) (root word : ℕ) → IsBlock top roots c
     → Covers c root word → is_in (block_of top c) (word_number top root word / 128) ≡ true
 covers-in top roots c root word block h =
@@ -41,7 +41,7 @@ inside-part top roots a b block_a block_b h = λ root word covers.
     (inside-is_in (block_of top a) (block_of top b) (word_number top root word / 128) h
     (covers-in top roots a root word block_a covers))
 
--- the smaller one is a part of the other, or shares nothing with it
+-- the smaller one is a part of the other, or shares no word with it
 part-or_apart : (top roots : ℕ) (a b : Chunk) → IsBlock top roots a → IsBlock top roots b
     → a.order ≤ b.order → IsPartOf a b ⊎ (¬ Meets a b)
 part-or_apart top roots a b block_a block_b le =
@@ -75,7 +75,7 @@ nested_or_apart top roots a b block_a block_b =
 pub giving_back_restores : GivingBackRestores
 giving_back_restores p c h = restores p c h
 
--- of two lists in order with the same elements each begins with the first of the other
+-- for two sorted lists with the same elements: each begins with the first element of the other
 before-irreflexive : (c : Chunk) → ¬ LiesBefore c c
 before-irreflexive c (inl h) = absurd (omega arith)
 before-irreflexive c (inr (e, h)) = absurd (omega arith)
@@ -115,7 +115,7 @@ same-members (c ∷ cs) (d ∷ ds) p q f g =
     in
     λ i. e i ∷ rest i
 
--- two lists of the largest free chunks are one
+-- two lists of the largest free chunks are the same
 pub same_list : (p : FreeSpace) (cs ds : List Chunk) → AreLargestFree p cs → AreLargestFree p ds
     → cs ≡ ds
 same_list p cs ds h k =
@@ -123,7 +123,7 @@ same_list p cs ds h k =
     (λ x m. k.every x (each-among (IsLargestFree p) cs x h.each m))
     (λ x m. h.every x (each-among (IsLargestFree p) ds x k.each m))
 
--- where the chunk above and the other half lie
+-- where the chunk above and the other half are
 above-at : (c : Chunk)
     → (chunk_above c).at ≡ (c.at / chunk_size c.order / 2) * (2 * chunk_size c.order)
 above-at c =
@@ -131,7 +131,7 @@ above-at c =
     let order : size * 2 ≡ 2 * size = omega arith in
     ap (λ n. n * (2 * size)) (ap (λ d. c.at / d) (sym order) ∙ sym (div-div-eq-div-mul c.at size 2))
 
--- the lower half is c, or it is its buddy
+-- the lower half is c, or it is c's buddy
 pub record LieSo (c : Chunk) (above other : ℕ) : Type 0 where
   pub lies : ((above ≡ c.at) × (other ≡ c.at + chunk_size c.order)) ⊎ ((above ≡ other)
       × (c.at ≡ other + chunk_size c.order))

@@ -1,4 +1,5 @@
--- Blocks of the tree of halves: where they start and stop, their halves, and what lies inside what.
+-- Blocks of the binary tree of halves: where they start and stop, their halves, and what is inside
+-- what.
 -- For `Pool::alloc`, `Pool::give`, `take_out`.
 use Rattle.std.proofs.Common.{◌≡◌, ℕ, suc, ◌+◌, ◌-◌, ◌*◌, ◌/◌, ◌%◌, ◌^◌, ◌<◌, ◌≤◌, Bool, true}
 use Rattle.std.proofs.Common.{false, cond, ◌||◌, eqb, refl, sym, ap, ◌∙◌, subst, inl, inr, ◌⊎◌}
@@ -34,7 +35,7 @@ is_in-last b =
 pub half_eq : (x i : ℕ) → eqb (x / 2) i ≡ (eqb x (2 * i) || eqb x (2 * i + 1))
 half_eq x i = grind (arith, nat_tests)
 
--- the size of a block, by that of its halves
+-- the size of a block, from that of its halves
 pub twice : (o : ℕ) → 0 < o → 2 ^ o ≡ 2 ^ (o - 1) + 2 ^ (o - 1)
 twice o h = let e : o ≡ suc (o - 1) = omega arith in ap (λ k. 2 ^ k) e ∙ two-pow-succ (o - 1)
 
@@ -59,7 +60,7 @@ pub stop-right_half : (b : Block) → 0 < b.order → stop (right_half b) ≡ st
 unfolding right_half
 stop-right_half b h = omega (arith, twice b.order h, ap (λ s. b.index * s) (twice b.order h))
 
--- what lies inside
+-- what is inside a block
 pub inside-is_in : (w b : Block) (g : ℕ) → Inside w b → is_in w g ≡ true → is_in b g ≡ true
 inside-is_in w b g h in_w =
     let order : b.order ≡ w.order + (b.order - w.order) = omega (arith, h.smaller) in
@@ -98,7 +99,7 @@ inside-same_order w b h e =
     let whole : w.index / 2 ^ 0 ≡ w.index = omega arith in
     same_block w b (sym whole ∙ ap (λ k. w.index / 2 ^ k) (sym none) ∙ h.same_part) e
 
--- what is smaller lies in a half
+-- what is inside a block and smaller is inside a half
 pub inside-half : (w b : Block) → Inside w b → w.order < b.order → Inside w (left_half b)
     ⊎ Inside w (right_half b)
 unfolding left_half right_half
@@ -222,7 +223,7 @@ pub order-block_above : (b : Block) → (block_above b).order ≡ b.order + 1
 unfolding block_above
 order-block_above b = refl
 
--- what holds one half and is longer holds the block above
+-- a block that contains a half and is larger contains the block above
 pub inside-above : (b c : Block) → Inside b c → b.order < c.order → Inside (block_above b) c
 inside-above b c h lt =
     inside-from_shared (block_above b) c (start b) (omega (arith, order-block_above b))
@@ -235,6 +236,6 @@ inside-other b c h lt g e =
     inside-is_in (block_above b) c g (inside-above b c h lt)
     (in-above b g ∙ or_right (is_in b g) _ e)
 
--- a block that lies low has a low index
+-- a block that starts below a limit has an index below it
 pub index-below : (b : Block) (limit : ℕ) → start b < limit → b.index < limit
 index-below b limit h = omega (arith, mul-le-mul_left b.index (pow_pos b.order))

@@ -1,4 +1,4 @@
--- Rows with no bit set, made one after the other.
+-- Rows with no bit set, made one after another.
 -- For `empty_rows`.
 use Rattle.std.proofs.Common.{◌≡◌, ℕ, zero, suc, ◌+◌, ◌-◌, ◌*◌, ◌^◌, ◌<◌, ◌≤◌, List, [], ◌∷◌, ◌++◌}
 use Rattle.std.proofs.Common.{length, replicate, refl, sym, ap, ◌∙◌, inl, inr, arith, length-append}
@@ -12,7 +12,7 @@ use Rattle.cm_pool.specs.Geometry.{Sizes, IsGeometry}
 use Rattle.cm_pool.specs.Rows.{row, AreEmpty}
 use Rattle.cm_pool.proofs.Marks.{no-mark_past}
 
--- so many rows, each of words that are 0, with a bit for each block of a region
+-- this many rows, each of words that are 0, with a bit for each block of a region
 pub record AreZeros (sizes : Sizes) (count : ℕ) (rows : List (List ℕ)) : Type 0 where
   pub orders : length rows ≡ count
   pub zeros : (o : ℕ) → o < count → row rows o ≡ replicate (length (row rows o)) 0

@@ -7,11 +7,11 @@ use Rattle.std.proofs.Math.Nat.{mul-le-mul_right}
 use Rattle.cm_pool.specs.Bits.{bit, IsFirstBit}
 use Rattle.cm_pool.specs.declared.block.Block.{Block}
 use Rattle.cm_pool.specs.Blocks.{start}
-use Rattle.cm_pool.specs.Rows.{row, is_marked, IsFirst, IsFirstFrom}
+use Rattle.cm_pool.specs.Rows.{row, is_marked, IsFirstBlock, IsFirstFrom}
 
--- in one row
+-- the first block in one row
 pub first-from : (rows : List (List ℕ)) (order index : ℕ) → IsFirstBit (row rows order) index
-    → IsFirst rows order (order + 1) (record { index = index; order = order })
+    → IsFirstBlock rows order (order + 1) (record { index = index; order = order })
 first-from rows order index h =
     record {
       is_set = h.is_set;
@@ -36,7 +36,7 @@ none-from rows order none c low high =
     let same : c.order ≡ order = omega arith in
     ap (λ k. bit (row rows k) c.index) same ∙ none c.index
 
--- in one row more
+-- the first block with one more row
 pub record IsEarlier (a b found : Option Block) : Type 0 where
   pub none : IfNone found ((a ≡ None) × (b ≡ None))
   pub one : IfSome found (λ x. (a ≡ Some x) ⊎ (b ≡ Some x))
@@ -60,9 +60,9 @@ first-more rows low high a b None le first next h =
     ]
 first-more rows low high a b (Some x) le first next h =
     let from_a : a ≡ Some x
-    → IsFirst rows low high x = λ e. subst (IsFirstFrom rows low high) e first in
+    → IsFirstBlock rows low high x = λ e. subst (IsFirstFrom rows low high) e first in
     let from_b : b ≡ Some x
-    → IsFirst rows high (high + 1) x = λ e. subst (IsFirstFrom rows high (high + 1)) e next in
+    → IsFirstBlock rows high (high + 1) x = λ e. subst (IsFirstFrom rows high (high + 1)) e next in
     record {
       is_set = elim h.one [ inl e ↦ (from_a e).is_set | inr e ↦ (from_b e).is_set ];
       from = elim h.one [ inl e ↦ (from_a e).from | inr e ↦ omega (arith, (from_b e).from) ];

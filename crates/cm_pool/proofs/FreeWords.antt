@@ -22,7 +22,7 @@ use Rattle.cm_pool.specs.Chunks.{chunk_size, Covers, Meets}
 use Rattle.cm_pool.specs.FreeSpace.{FreeSpace, word_number, IsFreeWord, IsFreeChunk, IsUsedChunk}
 use Rattle.cm_pool.specs.FreeSpace.{HasFree, words, without, with_chunk, with_root, next_root}
 
--- a word's number tells its root
+-- a word's number determines its root
 pub number-order : (size a b v w : ℕ) → a < b → v < size → a * size + v < b * size + w
 number-order size a b v w lt h =
     let more : (a + 1) * size ≤ b * size = mul-le-mul_right size (omega arith) in
@@ -85,7 +85,7 @@ pub range-set-decides : (a n q : ℕ)
     → Decides (contains (from_list {R = nat_cmp} (range_with_len a n)) q) ((a ≤ q) × (q < a + n))
 range-set-decides a n q = Decides-at _ _ (contains-from_list_nat _ q) (range-decides a n q)
 
--- a chunk inside its root has a word of a root exactly where it covers it
+-- a word of a root is in a chunk inside that root exactly if the chunk covers it
 pub words-covers : (top : ℕ) (c : Chunk) (root word : ℕ)
     → c.at + chunk_size c.order ≤ chunk_size top → word < chunk_size top
     → Decides (contains (words top c) (word_number top root word)) (Covers c root word)
@@ -94,7 +94,7 @@ words-covers top c root word inside within =
     (λ h. covers-number top c root word inside within h.0 h.1) (number-covers top c root word)
     (words-decides top c (word_number top root word))
 
--- what is free once a chunk was taken
+-- the free words after a chunk is taken
 pub free-without : (p : FreeSpace) (c : Chunk) (root word : ℕ)
     → c.at + chunk_size c.order ≤ chunk_size p.geometry.top → IsFreeWord (without p c) root word
     ↔ (IsFreeWord p root word × (¬ Covers c root word))
@@ -113,7 +113,7 @@ free-without p c root word inside =
       },
     )
 
--- what is free once a chunk came back
+-- the free words after a chunk is given back
 pub free-with_chunk : (p : FreeSpace) (c : Chunk) (root word : ℕ)
     → c.at + chunk_size c.order ≤ chunk_size p.geometry.top
     → IsFreeWord (with_chunk p c) root word ↔ (IsFreeWord p root word ⊎ Covers c root word)
@@ -137,7 +137,7 @@ free-with_chunk p c root word inside =
       ],
     )
 
--- what is free once there is one root more
+-- the free words after a root is added
 pub free-with_root : (p : FreeSpace) (root word : ℕ) → IsFreeWord (with_root p) root word
     ↔ (IsFreeWord p root word ⊎ ((root ≡ p.roots) × (word < chunk_size p.geometry.top)))
 free-with_root p root word =
@@ -168,7 +168,8 @@ pub same_numbers : (p q : FreeSpace) → p.geometry ≡ q.geometry → p.roots �
 same_numbers p q a b h =
     same_parts p q a b (same_set nat_cmp_total nat_cmp-IsAntisymmetric p.free q.free h)
 
--- Two pools of one geometry, with as many roots and the same free words, are one value.
+-- Two pools of the same geometry, with equally many roots and the same free words, are the same
+-- value.
 pub same_space : (p q : FreeSpace) → p.geometry ≡ q.geometry → p.roots ≡ q.roots
     → ((root word : ℕ) → IsFreeWord p root word ↔ IsFreeWord q root word) → p ≡ q
 same_space p q a b h =
@@ -244,7 +245,7 @@ takes_back p c h =
     taken false true k = refl
     taken false false k = refl
 
--- A chunk that was free is used once it was taken.
+-- A chunk that was free is used after it is taken.
 pub used-without : (p : FreeSpace) (c : Chunk) → IsFreeChunk p c → IsUsedChunk (without p c) c
 used-without p c h =
     record {
@@ -260,7 +261,7 @@ free-apart p c d free used (root, word, in_c, in_d) =
     used.words word in_d.from in_d.to
     (subst (λ r. IsFreeWord p r word) (sym in_c.same_root ∙ in_d.same_root) is_free)
 
--- A chunk that shares no word with one that is taken stays as it is.
+-- A free chunk that shares no word with one that is taken stays free.
 pub free-elsewhere : (p : FreeSpace) (c d : Chunk) → IsFreeChunk p c → IsFreeChunk p d
     → ¬ Meets c d → IsFreeChunk (without p c) d
 free-elsewhere p c d taken h apart =
@@ -306,7 +307,7 @@ root-has_free p order le =
       },
     )
 
--- Where a chunk is free, there are free ones of each smaller order.
+-- If a chunk is free, there are free ones of each smaller order.
 pub has_free-smaller : (p : FreeSpace) (small large : ℕ) → small ≤ large → HasFree p large
     → HasFree p small
 has_free-smaller p small large le (c, of_order, free) =

@@ -20,7 +20,7 @@ Apart a b = ¬ Meets a b
 turned : (a b : Chunk) → Apart a b → Apart b a
 turned a b h meets = h (meets.0, meets.1, meets.3, meets.2)
 
--- what shares no word with a chunk that comes back stays used
+-- what shares no word with a chunk that is given back stays used
 pub used-beside : (p : FreeSpace) (c d : Chunk) → IsUsedChunk p c → IsUsedChunk p d → ¬ Meets c d
     → IsUsedChunk (with_chunk p c) d
 used-beside p c d given h apart =
@@ -38,7 +38,7 @@ used-beside p c d given h apart =
           ];
     }
 
--- and so does what lies in the roots before a new one
+-- what is in the roots before a new one stays used
 pub used-with_root : (p : FreeSpace) (d : Chunk) → IsUsedChunk p d → IsUsedChunk (with_root p) d
 used-with_root p d h =
     record {
@@ -69,7 +69,7 @@ held-taken p cs c h free =
           (λ d used. turned c d (free-apart p c d free used)) cs h.each) tt;
     }
 
--- what is known of each element of a list and of its relation to c
+-- what is known of each element of a list and of how it relates to c
 both : (p : FreeSpace) (c : Chunk) (cs : List Chunk) → IsUsedChunk p c
     → AllByRecursion (IsUsedChunk p) cs → AllByRecursion (λ d. Apart c d) cs
     → AllByRecursion (IsUsedChunk (with_chunk p c)) cs
@@ -100,7 +100,7 @@ held-with_root p cs h =
       apart = h.apart;
     }
 
--- a free chunk that is taken is held from then on, wherever it is put
+-- a free chunk that is taken is held from then on, wherever it is inserted
 pub held-put : (p : FreeSpace) (xs : List Chunk) (c : Chunk) (ys : List Chunk)
     → AreHeld p (xs ++ ys) → IsFreeChunk p c → AreHeld (without p c) (xs ++ c ∷ ys)
 held-put p xs c ys h free =

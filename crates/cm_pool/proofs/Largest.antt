@@ -54,7 +54,7 @@ test-from_free p c h =
     let at = chunk-word p.geometry.top c n e in
     ap (contains p.free) (sym at.1) ∙ (h.words at.0 at.2 at.3).is_free)
 
--- the chunk above is one of the root too
+-- the chunk above is in the root too
 above-block : (top roots : ℕ) (c : Chunk) → IsBlock top roots c → c.order < top
     → IsBlock top roots (chunk_above c)
 above-block top roots c h lt =
@@ -145,7 +145,7 @@ candidate-block p n o le below h =
       sym (chunk_at-same top b le).place ∙ omega (arith, ap (λ m. 128 * m) here),
     )
 
--- a chunk is the candidate of its order where it begins
+-- a chunk is the candidate of its order at the granule where it begins
 candidate-is : (p : FreeSpace) (c : Chunk) (n : ℕ) → IsBlock p.geometry.top p.roots c
     → word_number p.geometry.top c.root c.at ≡ 128 * n → (candidate p n c.order ≡ c)
     × (begins n c.order ≡ true)
@@ -180,8 +180,7 @@ order-candidate : (p : FreeSpace) (n o : ℕ) → (candidate p n o).order ≡ o
 unfolding candidate
 order-candidate p n o = refl
 
--- the largest free chunk that begins at a granule, if there is one: the orders are tried from o
--- down
+-- the largest free chunk that begins at a granule, if there is one: it tries the orders from o down
 pick : FreeSpace → ℕ → ℕ → Option Chunk
 pick p n zero = cond (passes p n 0) (Some (candidate p n 0)) None
 pick p n (suc o) = cond (passes p n (suc o)) (Some (candidate p n (suc o))) (pick p n o)
@@ -214,7 +213,7 @@ pick-sound p n (suc o) le below =
       | false ↦ λ _. pick-sound p n o (omega arith) below
     ] refl
 
--- no larger one begins there
+-- no larger free chunk begins there
 none-larger : (p : FreeSpace) (n : ℕ) (c d : Chunk) → IsPicked p n c → IsPicked p n d
     → c.order < d.order → ⊥
 none-larger p n c d h k lt =
@@ -278,7 +277,7 @@ pick-complete p n c (suc o) le below h small =
           ap (λ b. cond b (Some (candidate p n (suc o))) (pick p n o)) test ∙ ap Some same
     ]
 
--- those that begin below a granule, in order
+-- the largest free chunks that begin below a granule, in order
 with_option : List Chunk → Option Chunk → List Chunk
 with_option cs None = cs
 with_option cs (Some c) = cs ++ c ∷ []

@@ -1,4 +1,4 @@
--- Laws on lists: what holds of each element, or of each two, and which elements stand in one.
+-- Laws on lists: what holds for each element, or for each pair, and which elements are in a list.
 -- On `Among`, `Pairwise`, for crates above.
 use Rattle.std.proofs.Common.{◌≡◌, ℕ, zero, suc, ◌+◌, ◌<◌, ◌≤◌, List, [], ◌∷◌, ◌++◌, length, get_or}
 use Rattle.std.proofs.Common.{take, drop, refl, sym, ap, subst, inl, inr, ◌⊎◌, ◌∙◌, arith, Bool}
@@ -86,7 +86,7 @@ module _ {X : Type 0} where
   pairs-weaker R S f [] p = tt
   pairs-weaker R S f (x ∷ xs) p = (each-weaker (R x) (S x) (f x) xs p.0, pairs-weaker R S f xs p.1)
 
-  -- of two elements, one stands first
+  -- of two elements, one comes first
   pub pairs-among : (R : X → X → Type 0) (xs : List X) (x y : X) → Pairwise R xs → Among x xs
       → Among y xs → (x ≡ y) ⊎ (R x y ⊎ R y x)
   pairs-among R [] x y p m n = absurd m
@@ -97,7 +97,7 @@ module _ {X : Type 0} where
       (λ w. R w x) (sym f) (each-among (R z) zs x p.0 m)))
   pairs-among R (z ∷ zs) x y p (inr m) (inr n) = pairs-among R zs x y p.1 m n
 
-  -- one more element at the front that is known
+  -- one more element at the front, of which it is known
   pub each-more : (P : X → Type 0) (xs : List X) (i : ℕ) (d : X) → i < length xs
       → AllByRecursion P (take i xs) → P (get_or xs i d) → AllByRecursion P (take (i + 1) xs)
   each-more P xs i d h a p =
@@ -112,7 +112,7 @@ module _ {X : Type 0} where
   among-at (x ∷ xs) zero d h = inl refl
   among-at (x ∷ xs) (suc k) d h = inr (among-at xs k d (omega arith))
 
--- ---- what stands in lists that are joined, mapped and filtered
+-- ---- what is in lists that are joined, mapped and filtered
 
 pub among-left : {X : Type 0} (x : X) (xs ys : List X) → Among x xs → Among x (xs ++ ys)
 among-left x [] ys none = absurd none
@@ -130,7 +130,7 @@ among-append x (y ∷ xs) ys (inl e) = inl (inl e)
 among-append x (y ∷ xs) ys (inr m) =
     elim (among-append x xs ys m) [ inl a ↦ inl (inr a) | inr b ↦ inr b ]
 
--- the last of a list that one was put behind, or one before
+-- what is in a list with one element appended is in the list, or is that one
 pub among-push : {X : Type 0} (x y : X) (xs : List X) → Among x (xs ++ y ∷ []) → Among x xs
     ⊎ (x ≡ y)
 among-push x y xs m =

@@ -1,4 +1,4 @@
--- One block's bit in the rows: what changes with it, and what is covered then.
+-- One block's bit in the rows: what it changes, and what is covered afterwards.
 -- For `give_back`.
 use Rattle.std.proofs.Common.{◌≡◌, ◌≢◌, ℕ, zero, suc, ◌+◌, ◌*◌, ◌/◌, ◌^◌, ◌<◌, ◌≤◌, Bool, true}
 use Rattle.std.proofs.Common.{false, not, ◌||◌, ◌&&◌, eqb, List, [], ◌∷◌, length, set, refl, sym}
@@ -101,7 +101,7 @@ marked-without rows b c h e =
       )
     ]
 
--- a granule of a block whose bit is set is covered, and each that is covered is one
+-- a granule of a block whose bit is set is covered, and each covered granule is in such a block
 covered-bit : (rows : List (List ℕ)) (o g : ℕ) → bit (row rows o) (g / 2 ^ o) ≡ true
     → is_covered rows g ≡ true
 covered-bit [] o g e = absurd (both_ways _ (ap

@@ -1,4 +1,4 @@
--- No word is lost where chunks are taken, given back, and roots added.
+-- No word is lost if chunks are taken and given back, and roots added.
 -- On `NoneIsLost`, `FreeSpace`, `without`, for crates above.
 use Rattle.std.proofs.Common.{◌≡◌, ℕ, ◌+◌, ◌<◌, ◌≤◌, true, false, List, [], ◌∷◌, ◌++◌, refl, subst}
 use Rattle.std.proofs.Common.{inl, inr, ◌⊎◌, arith}
@@ -29,7 +29,7 @@ among-without (x ∷ xs) c ys d (inl e) = inr (inl e)
 among-without (x ∷ xs) c ys d (inr m) =
     elim (among-without xs c ys d m) [ inl e ↦ inl e | inr n ↦ inr (inr n) ]
 
--- a word is the chunk's, or it isn't
+-- a word is in the chunk, or it isn't
 covers-or_not : (p : FreeSpace) (c : Chunk) (root word : ℕ)
     → c.at + chunk_size c.order ≤ chunk_size p.geometry.top → word < chunk_size p.geometry.top
     → Covers c root word ⊎ (¬ Covers c root word)

@@ -1,4 +1,4 @@
--- Chunks and blocks of the same words, by their numbers.
+-- Chunks and blocks of the same words, in numbers.
 -- For `Block::first`, `Block::of_chunk`, `Block::to_chunk`.
 use Rattle.std.proofs.Common.{◌≡◌, ℕ, ◌+◌, ◌-◌, ◌*◌, ◌/◌, ◌%◌, ◌^◌, ◌<◌, ◌≤◌, refl, ap, ◌∙◌, arith}
 use Rattle.std.proofs.lemmas.Nat.{pow_pos, pow-add, shl-shr, mul-le}

@@ -1,4 +1,4 @@
--- A pool's rows and what they are seen as.
+-- A pool's rows and the value that they are seen as.
 -- For `Pool::add_root`, `Pool::alloc`, `Pool::geometry` and others.
 use Rattle.std.proofs.Common.{◌≡◌, ℕ, ◌+◌, ◌-◌, ◌*◌, ◌/◌, ◌^◌, ◌<◌, ◌≤◌, true, false, ◌||◌, ◌&&◌}
 use Rattle.std.proofs.Common.{not, List, length, refl, sym, ap, ◌∙◌, inl, inr, arith}
@@ -14,8 +14,8 @@ use Rattle.cm_pool.specs.Chunks.{chunk_size, IsBlock}
 use Rattle.cm_pool.specs.FreeSpace.{word_number, IsFreeChunk, HasFree, LiesBefore, IsFreeSpace}
 use Rattle.cm_pool.specs.FreeSpace.{with_root}
 use Rattle.cm_pool.specs.Blocks.{is_in, start, stop, Inside, IsSame}
-use Rattle.cm_pool.specs.Rows.{is_marked, is_covered, with_mark, HasPlace, IsKept, AreEmpty}
-use Rattle.cm_pool.specs.Rows.{IsFirst, IsPool, space_of}
+use Rattle.cm_pool.specs.Rows.{is_marked, is_covered, with_mark, HasPlace, AreBitRows, AreEmpty}
+use Rattle.cm_pool.specs.Rows.{IsFirstBlock, IsPool, space_of}
 use Rattle.cm_pool.proofs.Dyadic.{is_in-bounds, is_in-start, is_in-last, inside-is_in, inside-start}
 use Rattle.cm_pool.proofs.Marks.{marked-place, covered-marked, covered-with, covering}
 use Rattle.cm_pool.proofs.Trees.{IsHole, Holder, tree-from, whole-held, hole-fill, hole-place}
@@ -23,7 +23,7 @@ use Rattle.cm_pool.proofs.Places.{chunk-place}
 use Rattle.cm_pool.proofs.FreeWords.{number-order, same_numbers}
 use Rattle.cm_pool.proofs.Spaces.{contains-space_of, free-covered, covered-free, space-with_root}
 
--- all words that are covered lie in present roots
+-- all covered words are in present roots
 pub lawful : (sizes : Sizes) (roots : ℕ) (rows : List (List ℕ)) → IsPool sizes roots rows
     → IsFreeSpace (space_of sizes roots rows)
 lawful sizes roots rows h =
@@ -38,7 +38,7 @@ lawful sizes roots rows h =
           lt_of_mul-lt-mul_right (2 ^ sizes.top) below;
     }
 
--- and below the region's end
+-- all covered words are below the region's end
 pub within-limit : (sizes : Sizes) (roots : ℕ) (rows : List (List ℕ)) → IsPool sizes roots rows
     → (g : ℕ) → g < roots * 2 ^ sizes.top → g < sizes.roots * 2 ^ sizes.top
 within-limit sizes roots rows h g low =
@@ -55,7 +55,7 @@ same-stop top roots c b same h =
     omega (arith, same.place, h.inside, size)
 
 pub pool-taken : (sizes : Sizes) (roots : ℕ) (old new : List (List ℕ)) (b : Block)
-    → IsPool sizes roots old → IsKept sizes.top (sizes.roots * 2 ^ sizes.top) new → ((g : ℕ)
+    → IsPool sizes roots old → AreBitRows sizes.top (sizes.roots * 2 ^ sizes.top) new → ((g : ℕ)
     → is_covered new g ≡ (is_covered old g && not (is_in b g))) → IsPool sizes roots new
 pool-taken sizes roots old new b h kept covered =
     record {
@@ -67,7 +67,7 @@ pool-taken sizes roots old new b h kept covered =
 
 pub pool-given : (sizes : Sizes) (roots : ℕ) (old new : List (List ℕ)) (b : Block)
     → IsPool sizes roots old → stop b ≤ roots * 2 ^ sizes.top
-    → IsKept sizes.top (sizes.roots * 2 ^ sizes.top) new → ((g : ℕ)
+    → AreBitRows sizes.top (sizes.roots * 2 ^ sizes.top) new → ((g : ℕ)
     → is_covered new g ≡ (is_in b g || is_covered old g)) → IsPool sizes roots new
 pool-given sizes roots old new b h within kept covered =
     record {
@@ -80,7 +80,7 @@ pool-given sizes roots old new b h within kept covered =
       ];
     }
 
--- a free chunk lies in a block whose bit is set
+-- a free chunk is in a block whose bit is set
 pub free-held : (sizes : Sizes) (roots : ℕ) (rows : List (List ℕ)) (c : Chunk) (b : Block)
     → IsPool sizes roots rows → IsSame sizes.top c b → IsFreeChunk (space_of sizes roots rows) c
     → Holder rows b
@@ -89,7 +89,7 @@ free-held sizes roots rows c b h same free =
     (omega (arith, same.order, free.block.within_top))
     (free-covered sizes roots rows c b same free)
 
--- the chunk of a block that lies in such a one is free
+-- the chunk of a block inside such a block is free
 pub held-free : (sizes : Sizes) (roots : ℕ) (rows : List (List ℕ)) (c : Chunk) (b x : Block)
     → IsSame sizes.top c b → IsBlock sizes.top roots c → is_marked rows x ≡ true → Inside b x
     → IsFreeChunk (space_of sizes roots rows) c
@@ -107,7 +107,7 @@ pub same-block_of : (top roots : ℕ) (c : Chunk) → IsBlock top roots c
 same-block_of top roots c h =
     record { order = refl; place = chunk-place top c h.within_top h.aligned }
 
--- where no block of the order or a larger one has its bit set, no chunk of the order is free
+-- if no block of the order or a larger one has its bit set, no chunk of the order is free
 pub none-free : (sizes : Sizes) (roots : ℕ) (rows : List (List ℕ)) (order : ℕ)
     → IsPool sizes roots rows → ((b : Block) → order ≤ b.order → b.order < length rows
     → is_marked rows b ≡ false) → ¬ HasFree (space_of sizes roots rows) order
@@ -119,7 +119,7 @@ none-free sizes roots rows order h none (c, of_order, free) =
 
 -- the first block of the order or a larger one begins no later than any free chunk of it
 pub first-start : (sizes : Sizes) (roots : ℕ) (rows : List (List ℕ)) (order : ℕ) (b : Block)
-    (c : Chunk) → IsPool sizes roots rows → IsFirst rows order (length rows) b
+    (c : Chunk) → IsPool sizes roots rows → IsFirstBlock rows order (length rows) b
     → IsFreeChunk (space_of sizes roots rows) c → c.order ≡ order
     → start b ≤ start (block_of sizes.top c)
 first-start sizes roots rows order b c h first free of_order =
@@ -131,7 +131,7 @@ first-start sizes roots rows order b c h first free of_order =
     (marked-place rows held.0 held.1).order held.1 in
     omega arith
 
--- what begins no later doesn't lie behind
+-- what begins no later does not come after
 pub not-before : (top roots : ℕ) (c d : Chunk) (b : Block) → IsSame top c b → IsBlock top roots d
     → start b ≤ start (block_of top d) → ¬ LiesBefore d c
 not-before top roots c d b same block le before =
@@ -203,7 +203,7 @@ empty-space sizes rows empty =
     contains-space_of sizes 0 rows n ∙ none-covered rows (n / 128) empty.none
     ∙ sym (set.contains-empty nat_cmp n))
 
--- one root more
+-- one more root
 abbrev pub root_block : Sizes → ℕ → Block
 root_block sizes roots = record { index = roots; order = sizes.top }
 
@@ -251,7 +251,7 @@ root-space sizes roots rows place =
     (root_block sizes roots) (record { order = refl; place = omega arith })
     (λ g. covered-with rows (root_block sizes roots) g place)
 
--- a block whose bit is set lies in the present roots
+-- a block whose bit is set is in the present roots
 pub marked-stop : (sizes : Sizes) (roots : ℕ) (rows : List (List ℕ)) (x : Block)
     → IsPool sizes roots rows → is_marked rows x ≡ true → stop x ≤ roots * 2 ^ sizes.top
 marked-stop sizes roots rows x h e =

@@ -1,4 +1,4 @@
--- When two chunks are one, by the test on them, and that they meet both ways.
+-- When two chunks are the same, by the test on them, and that sharing words is symmetric.
 -- On `same_chunk`, `Meets`, for crates above.
 use Rattle.std.proofs.Common.{◌≡◌, ◌≢◌, ◌^◌, ◌<◌, ◌⊎◌, Bool, true, false, eqb, inl, inr, refl, sym}
 use Rattle.std.proofs.Common.{◌∙◌, subst, arith}
@@ -24,7 +24,7 @@ same_chunk-itself c =
 pub same_chunk-is : (a b : Chunk) → a ≡ b → same_chunk a b ≡ true
 same_chunk-is a b e = subst (λ (c : Chunk). same_chunk a c ≡ true) e (same_chunk-itself a)
 
--- two chunks are one, or the test says that they differ
+-- two chunks are the same, or the test says that they differ
 pub same_chunk-cases : (a b : Chunk) → ((same_chunk a b ≡ true) × (a ≡ b))
     ⊎ ((same_chunk a b ≡ false) × (a ≢ b))
 same_chunk-cases a b = by_test (same_chunk a b) refl

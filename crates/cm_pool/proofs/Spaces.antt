@@ -1,4 +1,4 @@
--- What rows of bits are seen as: the words of the blocks whose bits are set.
+-- The value that rows of bits are seen as: the words of the blocks whose bits are set.
 -- For `Pool::alloc`, `Pool::give`, `Pool::take`.
 use Rattle.std.proofs.Common.{◌≡◌, ℕ, zero, suc, ◌+◌, ◌*◌, ◌/◌, ◌<◌, ◌≤◌, Bool, true, false, cond}
 use Rattle.std.proofs.Common.{◌||◌, ◌&&◌, not, eqb, ltb, List, [], ◌∷◌, length, refl, sym, ap, ◌∙◌}
@@ -24,7 +24,7 @@ use Rattle.cm_pool.specs.Rows.{is_covered, marked, granules, granule_words, spac
 use Rattle.cm_pool.proofs.Dyadic.{half_eq, is_in-bounds, is_in-from_bounds}
 use Rattle.cm_pool.proofs.FreeWords.{range-decides, words-decides, same_numbers, chunk-word}
 
--- a word of a block lies in one of its granules
+-- a word of a block is in one of its granules
 granule : (b : Block) (n : ℕ) → Decides (is_in b (n / 128)) ((b.index * chunk_size b.order ≤ n)
     × (n < b.index * chunk_size b.order + chunk_size b.order))
 granule b n = (
@@ -32,7 +32,7 @@ granule b n = (
   λ h. is_in-from_bounds b (n / 128) (omega (arith, h.0)) (omega (arith, h.1)),
 )
 
--- which numbers the bits of a row stand for
+-- which numbers the bits of a row denote
 in-marked : (r : List ℕ) (n g : ℕ) → list_any (λ y. nat_eq y g) (marked r n) ≡ (ltb g n && bit r g)
 in-marked r zero g = sym (ap (λ t. t && bit r g) (le-ltb g 0 (omega arith)))
 in-marked r (suc n) g =
@@ -110,7 +110,7 @@ numbers (g ∷ gs) n =
     ∙ (λ i. same_from_decides _ _ (range-decides (128 * g) 128 n) (word-granule g n) i
     || numbers gs n i)
 
--- a word is free exactly where its granule is covered
+-- a word is free exactly if its granule is covered
 pub contains-space_of : (sizes : Sizes) (roots : ℕ) (rows : List (List ℕ)) (n : ℕ)
     → contains (space_of sizes roots rows).free n ≡ is_covered rows (n / 128)
 contains-space_of sizes roots rows n =
@@ -126,7 +126,7 @@ words-is_in top c b n same =
     (subst (λ size. Decides (is_in b (n / 128)) ((b.index * chunk_size b.order ≤ n)
     × (n < b.index * chunk_size b.order + size))) (ap chunk_size same.order) (granule b n)))
 
--- the list without a block is seen as the pool without its chunk
+-- the rows without a block are seen as the pool without its chunk
 pub space-without : (sizes : Sizes) (roots : ℕ) (old new : List (List ℕ)) (c : Chunk) (b : Block)
     → IsSame sizes.top c b → ((g : ℕ) → is_covered new g ≡ (is_covered old g && not (is_in b g)))
     → space_of sizes roots new ≡ without (space_of sizes roots old) c
@@ -196,7 +196,7 @@ used-uncovered sizes roots rows c b same used g h =
           ∙ contains-space_of sizes roots rows (128 * g) ∙ ap (is_covered rows) whole ∙ e;
     }))
 
--- and a chunk whose block is covered is free
+-- a chunk whose block is covered is free
 pub covered-free : (sizes : Sizes) (roots : ℕ) (rows : List (List ℕ)) (c : Chunk) (b : Block)
     → IsSame sizes.top c b → IsBlock sizes.top roots c → ((g : ℕ) → is_in b g ≡ true
     → is_covered rows g ≡ true) → IsFreeChunk (space_of sizes roots rows) c

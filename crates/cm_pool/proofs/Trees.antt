@@ -1,4 +1,4 @@
--- What the bits of a pool mean, kept as blocks are taken apart and joined.
+-- What the bits of a pool mean, preserved as blocks are split and joined.
 -- For `Pool::add_root`, `give_back`, `take_out`.
 use Rattle.std.proofs.Common.{◌≡◌, ℕ, zero, suc, ◌+◌, ◌-◌, ◌*◌, ◌/◌, ◌%◌, ◌^◌, ◌<◌, ◌≤◌, ◌↔◌, Bool}
 use Rattle.std.proofs.Common.{true, false, cond, not, ◌||◌, ◌&&◌, eqb, List, length, refl, sym, ap}
@@ -10,7 +10,7 @@ use Rattle.cm_pool.specs.declared.block.Block.{Block}
 use Rattle.cm_pool.specs.Blocks.{is_in, start, Inside, left_half, right_half, other_half}
 use Rattle.cm_pool.specs.Blocks.{block_above}
 use Rattle.cm_pool.specs.Rows.{is_marked, with_mark, without_mark, HasPlace, is_covered, IsWhole}
-use Rattle.cm_pool.specs.Rows.{IsLargest, IsKept}
+use Rattle.cm_pool.specs.Rows.{IsLargest, AreBitRows}
 use Rattle.cm_pool.proofs.Dyadic.{half_eq, is_in-start, is_in-halves, inside-is_in}
 use Rattle.cm_pool.proofs.Dyadic.{inside-same_order, inside-from_shared, same_block, other-order}
 use Rattle.cm_pool.proofs.Dyadic.{other-other, other-left, other-right, order-left, order-right}
@@ -19,8 +19,8 @@ use Rattle.cm_pool.proofs.Marks.{marked-place, length-with, length-without, mark
 use Rattle.cm_pool.proofs.Marks.{marked-without, covered-marked, covering, covered-with}
 use Rattle.cm_pool.proofs.Marks.{covered-without}
 
--- The same, said of the bits alone: no two such blocks share a granule, and no two are the halves
--- of one.
+-- The same, expressed by the bits alone: no two such blocks share a granule, and no two are the
+-- halves of one.
 pub record IsTree (top : ℕ) (rows : List (List ℕ)) : Type 0 where
   pub orders : length rows ≡ top + 1
   pub apart : (a b : Block) (g : ℕ) → is_marked rows a ≡ true → is_marked rows b ≡ true
@@ -28,7 +28,7 @@ pub record IsTree (top : ℕ) (rows : List (List ℕ)) : Type 0 where
   pub unjoined : (b : Block) → b.order < top → is_marked rows b ≡ true
       → is_marked rows (other_half b) ≡ false
 
--- blocks of one order that share a granule are one
+-- blocks of one order that share a granule are the same
 shared : (a b : Block) (g : ℕ) → a.order ≡ b.order → is_in a g ≡ true → is_in b g ≡ true → a ≡ b
 shared a b g e in_a in_b = same_block a b (sym (eqb-true _ _ in_a) ∙ ap
     (λ k. g / 2 ^ k) e ∙ eqb-true _ _ in_b) e
@@ -39,7 +39,7 @@ marked-order top rows b orders e = omega (arith, (marked-place rows b e).order)
 
 -- from the meaning to the tree
 smaller-apart : (top limit : ℕ) (rows : List (List ℕ)) (a b : Block) (g : ℕ)
-    → IsKept top limit rows → is_marked rows a ≡ true → is_marked rows b ≡ true
+    → AreBitRows top limit rows → is_marked rows a ≡ true → is_marked rows b ≡ true
     → is_in a g ≡ true → is_in b g ≡ true → a.order < b.order → ⊥
 smaller-apart top limit rows a b g h set_a set_b in_a in_b lt =
     let below_a = marked-order top rows a h.orders set_a in
@@ -48,7 +48,7 @@ smaller-apart top limit rows a b g h set_a set_b in_a in_b lt =
     ((h.meaning a below_a).0 set_a).1 (omega arith)
     (λ n e. covered-marked rows b n set_b (inside-other a b nested lt n e))
 
-pub tree-from : (top limit : ℕ) (rows : List (List ℕ)) → IsKept top limit rows → IsTree top rows
+pub tree-from : (top limit : ℕ) (rows : List (List ℕ)) → AreBitRows top limit rows → IsTree top rows
 tree-from top limit rows h =
     record {
       orders = h.orders;
@@ -72,7 +72,7 @@ halves i o g =
     ap (λ k. eqb (g / 2 ^ k) i) order ∙ ap
     (λ x. eqb x i) (sym (shr-shr g o 1)) ∙ half_eq (g / 2 ^ o) i
 
--- what holds a half and is longer holds the whole
+-- a block that contains a half and is larger contains the whole
 larger : (i o : ℕ) (half c : Block) → ((g : ℕ) → is_in half g ≡ true
     → is_in (block i (suc o)) g ≡ true) → suc o ≤ c.order → Inside half c
     → Inside (block i (suc o)) c
@@ -80,7 +80,7 @@ larger i o half c part le h =
     inside-from_shared (block i (suc o)) c (start half) le (part (start half) (is_in-start half))
     (inside-is_in half c (start half) h (is_in-start half))
 
--- a block that is wholly covered lies in one whose bit is set
+-- a block that is entirely covered is in one whose bit is set
 abbrev pub Holder : List (List ℕ) → Block → Type 0
 Holder rows w = (b : Block) × (is_marked rows b ≡ true) × Inside w b
 
@@ -181,9 +181,9 @@ pub meaning-from : (top : ℕ) (rows : List (List ℕ)) → IsTree top rows → 
     → b.order ≤ top → (is_marked rows b ≡ true) ↔ IsLargest top rows b
 meaning-from top rows h b le = (set-largest top rows b h, largest-set top rows b h le)
 
--- rows from which a block was taken, and that have a bit for it
+-- rows from which a block was taken, but which still have room for its bit
 pub record IsHole (top limit : ℕ) (rows : List (List ℕ)) (b : Block) : Type 0 where
-  pub kept : IsKept top limit rows
+  pub kept : AreBitRows top limit rows
   pub small : b.order ≤ top
   pub clear : (g : ℕ) → is_in b g ≡ true → is_covered rows g ≡ false
   pub low : (g : ℕ) → is_in b g ≡ true → g < limit
@@ -209,7 +209,7 @@ tree-without top rows b h place =
           (λ o. both_ways _ (h.unjoined c lt (was c e)) (was (other_half c) o));
     }
 
-pub hole-out : (top limit : ℕ) (rows : List (List ℕ)) (b : Block) → IsKept top limit rows
+pub hole-out : (top limit : ℕ) (rows : List (List ℕ)) (b : Block) → AreBitRows top limit rows
     → is_marked rows b ≡ true → IsHole top limit (without_mark rows b) b
 hole-out top limit rows b h e =
     let place = marked-place rows b e in
@@ -278,7 +278,8 @@ tree-with top limit rows b h alone =
     }
 
 pub hole-fill : (top limit : ℕ) (rows : List (List ℕ)) (b : Block) → IsHole top limit rows b
-    → (b.order < top → is_marked rows (other_half b) ≡ false) → IsKept top limit (with_mark rows b)
+    → (b.order < top → is_marked rows (other_half b) ≡ false)
+    → AreBitRows top limit (with_mark rows b)
 hole-fill top limit rows b h alone =
     let place = hole-place top limit rows b h in
     record {
@@ -303,7 +304,7 @@ hole-part top limit rows b c h le part =
       low = λ g e. h.low g (part g e);
     }
 
--- one half stays, and the other is taken apart further
+-- one half stays, and the other is split further
 hole-half : (top limit : ℕ) (rows : List (List ℕ)) (b c : Block) → IsHole top limit rows b
     → c.order ≤ b.order → ((g : ℕ) → is_in c g ≡ true → is_in b g ≡ true) → ((g : ℕ)
     → is_in (other_half c) g ≡ true → is_in b g ≡ true)
@@ -355,7 +356,7 @@ place-right top limit rows b h pos =
     (hole-part top limit rows b (right_half b) h (omega (arith, order-right b))
     (λ g e. is_in-halves b g pos ∙ or_right (is_in (left_half b) g) _ e))
 
--- the other half is free too: the block above is taken
+-- the other half is free too: the block above is then taken
 pub hole-join : (top limit : ℕ) (rows : List (List ℕ)) (b : Block) → IsHole top limit rows b
     → b.order < top → is_marked rows (other_half b) ≡ true
     → IsHole top limit (without_mark rows (other_half b)) (block_above b)
@@ -411,7 +412,7 @@ or_split true false c = refl
 or_split false true c = refl
 or_split false false c = refl
 
--- with the halves apart, the same is covered or taken
+-- once a block is split into halves, the same granules are covered or taken
 pub covered-left : (rows : List (List ℕ)) (b : Block) (g : ℕ) → HasPlace rows (right_half b)
     → 0 < b.order
     → (is_in (left_half b) g || is_covered (with_mark rows (right_half b)) g)
@@ -430,7 +431,7 @@ covered-right rows b g place pos =
     ∙ or_split (is_in (left_half b) g) (is_in (right_half b) g) (is_covered rows g)
     ∙ ap (λ a. a || is_covered rows g) (sym (is_in-halves b g pos))
 
--- a block whose bit is set is covered already
+-- a block whose bit is set was covered already
 pub covered-out : (rows : List (List ℕ)) (b : Block) (g : ℕ) → is_marked rows b ≡ true
     → (is_in b g || is_covered (without_mark rows b) g) ≡ is_covered rows g
 covered-out rows b g e =
@@ -441,7 +442,7 @@ covered-out rows b g e =
     absorbed true c h = sym (h refl)
     absorbed false c h = refl
 
--- what is left where a part of a whole was taken
+-- what is left after a part of a whole is taken
 pub without_part : (a c o : Bool) → (a || c) ≡ o → (a ≡ true → c ≡ false) → c ≡ (o && not a)
 without_part true c o e h = h refl ∙ ap (λ x. x && false) e
 without_part false c o e h = e ∙ and_true o

@@ -1,5 +1,5 @@
--- Chunks: which words a chunk stands for, and which chunks a region has.
--- Chunks have power-of-two sizes and lie at multiples of their size, as in OpenJDK JEP 387; the
+-- Chunks: which words a chunk denotes, and which chunks a region has.
+-- Chunks have power-of-two sizes and begin at multiples of their size, as in OpenJDK JEP 387; the
 -- sizes are this project's own.
 use Rattle.std.specs.Prelude.{◌≡◌, ℕ, ◌+◌, ◌*◌, ◌%◌, ◌^◌, ◌<◌, ◌≤◌, Bool, ◌==◌, ◌&&◌}
 use Rattle.cm_pool.specs.declared.chunk.Chunk.{Chunk}
@@ -9,11 +9,11 @@ use Rattle.cm_pool.specs.Geometry.{Sizes}
 abbrev pub chunk_size : ℕ → ℕ
 chunk_size order = 128 * 2 ^ order
 
--- the two are one chunk
+-- the two chunks are the same
 abbrev pub same_chunk : Chunk → Chunk → Bool
 same_chunk a b = (a.root == b.root) && ((a.order == b.order) && (a.at == b.at))
 
--- a word of a root is one of the chunk's
+-- a word of a root is in the chunk
 pub record Covers (c : Chunk) (root word : ℕ) : Type 0 where
   pub same_root : root ≡ c.root
   pub from : c.at ≤ word

@@ -2,8 +2,8 @@
 -- The numbers are this project's own.
 use Rattle.std.specs.Prelude.{ℕ, ◌≤◌}
 
--- a root chunk has 128 * 2 ^ top words; there are up to `roots` of them, and `slots` in each half
--- of the journal
+-- a root chunk has 128 * 2 ^ top words; there are up to `roots` of them, and `slots` slots in each
+-- half of the journal
 pub record Sizes : Type 0 where
   pub top : ℕ
   pub roots : ℕ

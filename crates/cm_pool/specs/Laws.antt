@@ -1,4 +1,4 @@
--- What all of a pool rests on: how chunks lie to one another, and that the free words determine the
+-- What the pool rests on: how chunks relate to one another, and that the free words determine the
 -- largest free chunks.
 use Rattle.std.specs.Prelude.{◌≡◌, ℕ, ◌+◌, ◌-◌, ◌*◌, ◌/◌, ◌%◌, ◌<◌, ◌==◌, ◌⊎◌, ◌↔◌, List}
 use Rattle.std.specs.Prelude.{if◌then◌else◌}
@@ -12,7 +12,7 @@ use Rattle.cm_pool.specs.Lists.{Pairwise, Among}
 abbrev pub IsPartOf : Chunk → Chunk → Type 0
 IsPartOf a b = (root word : ℕ) → Covers a root word → Covers b root word
 
--- Of two chunks one is a part of the other, or they share no word.
+-- Two chunks are disjoint, or one is a part of the other.
 abbrev pub NestedOrApart : Type 0
 NestedOrApart = (top roots : ℕ) (a b : Chunk) → IsBlock top roots a → IsBlock top roots b
     → IsPartOf a b ⊎ (IsPartOf b a ⊎ (¬ Meets a b))
@@ -52,7 +52,7 @@ pub record AreLargestFree (p : FreeSpace) (cs : List Chunk) : Type 0 where
   pub each : AllByRecursion (IsLargestFree p) cs
   pub every : (c : Chunk) → IsLargestFree p c → Among c cs
 
--- There is exactly one list of them, whatever words are free.
+-- There is exactly one list of the largest free chunks, whatever words are free.
 abbrev pub OneListOfLargest : Type 0
 OneListOfLargest = (p : FreeSpace) → ((cs : List Chunk) × AreLargestFree p cs)
     × ((cs ds : List Chunk) → AreLargestFree p cs → AreLargestFree p ds → cs ≡ ds)

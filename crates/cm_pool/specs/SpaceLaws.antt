@@ -1,16 +1,16 @@
--- What whoever holds chunks of a pool relies on, in words of free words alone: nothing here speaks
--- of how a pool keeps them.
+-- What a holder of chunks of a pool relies on, in terms of free words alone: nothing here depends
+-- on how a pool keeps them.
 use Rattle.std.specs.Prelude.{◌≤◌, ℕ, List, ◌∷◌, ◌++◌}
 use Rattle.cm_pool.specs.declared.chunk.Chunk.{Chunk}
 use Rattle.cm_pool.specs.FreeSpace.{FreeSpace, IsFreeChunk, IsUsedChunk, HasFree, without}
 use Rattle.cm_pool.specs.FreeSpace.{with_chunk, with_root}
 use Rattle.cm_pool.specs.Held.{AreHeld, NoneIsLost}
 
--- A chunk that was free is used once it was taken.
+-- A chunk that was free is used after it is taken.
 abbrev pub TakenIsUsed : Type 0
 TakenIsUsed = (p : FreeSpace) (c : Chunk) → IsFreeChunk p c → IsUsedChunk (without p c) c
 
--- A free chunk that is taken is held from then on, wherever it is put among those that were.
+-- A free chunk that is taken is held from then on, wherever it is inserted among the held ones.
 abbrev pub TakenIsHeld : Type 0
 TakenIsHeld =
     (p : FreeSpace) (front : List Chunk) (c : Chunk) (back : List Chunk)
@@ -22,11 +22,11 @@ HeldIsGiven =
     (p : FreeSpace) (front : List Chunk) (c : Chunk) (back : List Chunk)
     → AreHeld p (front ++ c ∷ back) → IsUsedChunk p c × AreHeld (with_chunk p c) (front ++ back)
 
--- One root more changes nothing of what is held.
+-- One more root changes nothing about what is held.
 abbrev pub RootsKeepHeld : Type 0
 RootsKeepHeld = (p : FreeSpace) (cs : List Chunk) → AreHeld p cs → AreHeld (with_root p) cs
 
--- No word is lost where a free chunk is taken and kept, and none where a root is added.
+-- No word is lost if a free chunk is taken and kept, or if a root is added.
 abbrev pub TakingLosesNone : Type 0
 TakingLosesNone =
     (p : FreeSpace) (front : List Chunk) (c : Chunk) (back : List Chunk)
@@ -39,7 +39,7 @@ RootsLoseNone = (p : FreeSpace) (cs : List Chunk) → NoneIsLost p cs → NoneIs
 abbrev pub RootsAreFree : Type 0
 RootsAreFree = (p : FreeSpace) (order : ℕ) → order ≤ p.geometry.top → HasFree (with_root p) order
 
--- Where a chunk is free, there are free ones of each smaller order.
+-- If a chunk is free, there are free ones of each smaller order.
 abbrev pub LargeHasSmall : Type 0
 LargeHasSmall =
     (p : FreeSpace) (small large : ℕ) → small ≤ large → HasFree p large → HasFree p small

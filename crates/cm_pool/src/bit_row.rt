@@ -9,9 +9,9 @@ use std::marker::Model;
 
 /// Bits in a row, each set or not, in up to 16,384 words of 64.
 ///
-/// Contracts see a row as its words. Above them it keeps a bit for each word that has one set, and
-/// above those again: so the first bit that is set is found by three words, and a few more where
-/// the row is longer than 4,096 words.
+/// Contracts see a row as its words. Above them it keeps a bit for each word that has a bit set,
+/// and above those the same again: so the first bit that is set is found by reading three words,
+/// and a few more if the row is longer than 4,096 words.
 #[derive(Drop)]
 pub struct BitRow {
     words: Vec<u64>,
@@ -31,7 +31,7 @@ impl Model for BitRow {
 }
 
 impl BitRow {
-    /// A row of so many words, with no bit set.
+    /// A row of `words` words, with no bit set.
     pub fn new(alloc: Global, words: usize) -> Result<BitRow, AllocError>
         requires { words ≤ 16384 }
         ensures { IfOk result (λ row. row ≡ replicate words 0) }
@@ -44,7 +44,7 @@ impl BitRow {
         })
     }
 
-    /// Whether a bit is set. Behind the last word none is.
+    /// Whether a bit is set. After the last word none is.
     pub fn has(&self, at: u32) -> bool
         ensures { result ≡ bit self.now at }
     {
@@ -67,7 +67,7 @@ impl BitRow {
         ensures { self.new ≡ without_bit self.old at }
     {
         if clear_bit(&mut self.words, at) && clear_bit(&mut self.groups, at / 64) {
-            let _none_left = clear_bit(&mut self.heads, at / 64 / 64); // no row stands above
+            let _none_left = clear_bit(&mut self.heads, at / 64 / 64); // there is no row above
         }
     }
 

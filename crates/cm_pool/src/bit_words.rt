@@ -3,7 +3,7 @@ ghost use Rattle.std.specs.Prelude.{◌≡◌, ℕ, ◌*◌, ◌/◌, ◌<◌, �
 ghost use Rattle.std.specs.Prelude.{vec_len, IfSome, IfNone};
 ghost use Rattle.cm_pool.specs.Bits.{bit, with_bit, without_bit, IsFirstWord, IsFirstBit};
 
-/// Whether a bit is set. Behind the last word none is.
+/// Whether a bit is set. After the last word none is.
 pub fn has_bit(words: &[u64], at: u32) -> bool
     ensures { result ≡ bit words.now at }
 {
@@ -19,7 +19,7 @@ pub fn set_bit(words: &mut Vec<u64>, at: u32)
     words[(at / 64) as usize] |= 1 << (at % 64);
 }
 
-/// Clears a bit, and says whether its word has none left.
+/// Clears a bit, and returns whether its word has none left.
 pub fn clear_bit(words: &mut Vec<u64>, at: u32) -> bool
     requires { at < 64 * vec_len words.old }
     ensures cleared { words.new.items ≡ without_bit words.old.items at }

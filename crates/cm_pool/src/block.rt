@@ -1,4 +1,4 @@
-// A block of the tree of halves over all roots.
+// A block of the binary tree of halves over all roots.
 ghost use Rattle.std.specs.Prelude.{◌≡◌, ◌+◌, ◌-◌, ◌*◌, ◌/◌, ◌^◌, ◌<◌, ◌≤◌, ◌↔◌, ℕ, IsTrue};
 
 use crate::chunk::Chunk;
@@ -32,7 +32,7 @@ impl Block {
         part.order <= self.order && part.index >> (self.order - part.order) == self.index
     }
 
-    /// Its two halves, of the next smaller order, the one of lower words first.
+    /// Its two halves, of the next smaller order, the one with the lower words first.
     #[tactic(auto, unfolding(crate::specs::Blocks::left_half, crate::specs::Blocks::right_half))]
     pub fn halves(self) -> (Block, Block)
         requires splits { 0 < self.order }
@@ -82,7 +82,7 @@ impl Block {
         }
     }
 
-    /// The block of a larger order that this one lies in.
+    /// The block of a larger order that contains this one.
     pub fn ancestor(self, order: u32) -> Block
         requires within { self.order ≤ order }
         requires small { order ≤ 12 }
@@ -110,7 +110,7 @@ impl Block {
         }
     }
 
-    /// The block that has a chunk's words, where roots are of order `top`.
+    /// The block that has a chunk's words, if roots are of order `top`.
     pub fn of_chunk(chunk: &Chunk, top: u32) -> Block
         requires within { IsBlock top 256 chunk.now }
         requires top { top ≤ 12 }
@@ -122,7 +122,7 @@ impl Block {
         }
     }
 
-    /// The chunk that has a block's words, where roots are of order `top`.
+    /// The chunk that has a block's words, if roots are of order `top`.
     pub fn to_chunk(self, top: u32) -> Chunk
         requires within { self.order ≤ top }
         requires top { top ≤ 12 }

@@ -5,8 +5,8 @@ use crate::geometry::Geometry;
 
 /// The words `at .. at + 128 * 2^order` of root `root`, of 8 bytes each.
 ///
-/// In a region `at` is a multiple of the size and the chunk lies inside its root
-/// ([`Chunk::is_within`]); a chunk that was read from a file may have any numbers.
+/// In a region `at` is a multiple of the size and the chunk is inside its root
+/// ([`Chunk::is_within`]); a chunk read from a file may have any numbers.
 #[derive(Clone, Copy, Debug, PartialEq, Eq)]
 pub struct Chunk {
     pub root: u32,
@@ -14,8 +14,8 @@ pub struct Chunk {
     pub at: u32,
 }
 
-/// Where every chunk that reaches past the `u32`s ends, for [`Chunk::meets`]. From order 26 on each
-/// chunk does.
+/// The end, for [`Chunk::meets`], of every chunk that reaches past the `u32`s. Each chunk of order
+/// 26 or more does.
 const FAR: u64 = 1 << 33;
 
 impl Chunk {
@@ -31,7 +31,7 @@ impl Chunk {
     }
 
     /// Whether a region of these sizes can have this chunk: its order is at most `top`, its root
-    /// below `roots`, it lies at a multiple of its size, and inside the root.
+    /// below `roots`, it begins at a multiple of its size, and it is inside the root.
     pub fn is_within(&self, geometry: Geometry) -> bool
         ensures { IsTrue result ↔ IsChunk geometry self.now }
     {
@@ -50,7 +50,7 @@ impl Chunk {
         128 << self.order
     }
 
-    // The word behind the chunk's last, or `FAR` where that is further on.
+    // The word after the chunk's last, or `FAR` if that is further on.
     fn end(&self) -> u64
         ensures { result ≡ min (self.now.at + chunk_size self.now.order) (2 ^ 33) }
     {

@@ -21,7 +21,8 @@ pub const LEAST_SLOTS: u32 = 256;
 /// How many slots each half of a journal has at most.
 pub const MOST_SLOTS: u32 = 65_536;
 
-/// The sizes of a region, within their limits. They are chosen when the region is made, and stay.
+/// The sizes of a region, within their limits. They are chosen when the region is made, and never
+/// change.
 #[derive(Clone, Copy, Debug, PartialEq, Eq)]
 pub struct Geometry {
     top: u32,
@@ -45,7 +46,7 @@ impl Model for Geometry {
 impl Geometry {
     ghost use Rattle.cm_pool.specs.Geometry.{Sizes, IsGeometry};
 
-    /// The geometry of these sizes, or `None` where one of them is outside its limits: `top` is
+    /// The geometry of these sizes, or `None` if one of them is outside its limits: `top` is
     /// [`LEAST_TOP`] to [`MOST_TOP`], `roots` [`LEAST_ROOTS`] to [`MOST_ROOTS`], and `slots`
     /// [`LEAST_SLOTS`] to [`MOST_SLOTS`].
     pub fn new(top: u32, roots: u32, slots: u32) -> Option<Geometry>

@@ -1,11 +1,11 @@
-// What all of a pool rests on, as laws of the definitions that its contracts cite.
+// Laws of the definitions that the pool's contracts cite.
 ghost use Rattle.cm_pool.specs.Laws.{NestedOrApart, HalvesMakeWhole, GivingBackRestores};
 ghost use Rattle.cm_pool.specs.Laws.{OneListOfLargest};
 ghost use Rattle.cm_pool.specs.SpaceLaws.{TakenIsUsed, TakenIsHeld, HeldIsGiven, RootsKeepHeld};
 ghost use Rattle.cm_pool.specs.SpaceLaws.{TakingLosesNone, RootsLoseNone, RootsAreFree};
 ghost use Rattle.cm_pool.specs.SpaceLaws.{LargeHasSmall};
 
-/// Of two chunks of a region one is a part of the other, or they share no word.
+/// Two chunks of a region are disjoint, or one is a part of the other.
 pub fn nested_or_apart()
     ensures { NestedOrApart }
 {}
@@ -25,27 +25,27 @@ pub fn one_list_of_largest()
     ensures { OneListOfLargest }
 {}
 
-/// What is taken is used, and can be held with what was held before; what is held can be given
-/// back.
+/// A chunk that is taken is used, and can be held with those that were held before; a chunk that is
+/// held can be given back.
 pub fn held_chunks_come_and_go()
     ensures used { TakenIsUsed }
     ensures held { TakenIsHeld }
     ensures given { HeldIsGiven }
 {}
 
-/// No word is lost where a chunk is taken and kept.
+/// No word is lost if a chunk is taken and kept.
 pub fn taking_loses_none()
     ensures { TakingLosesNone }
 {}
 
-/// A new root has free chunks of each order. What was held stays held, and no word is lost.
+/// A new root has free chunks of each order. What was held is still held, and no word is lost.
 pub fn roots_are_free()
     ensures free { RootsAreFree }
     ensures held { RootsKeepHeld }
     ensures none_lost { RootsLoseNone }
 {}
 
-/// Where a chunk is free, there are free ones of each smaller order.
+/// If a chunk is free, there are free ones of each smaller order.
 pub fn large_has_small()
     ensures { LargeHasSmall }
 {}

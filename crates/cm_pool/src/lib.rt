@@ -14,7 +14,7 @@ mod rows;
 // A crate can name a pool in a contract only if the types of its fields are exported.
 #[doc(hidden)]
 pub use bit_row::BitRow;
-// The plain body of a pool stands on the same blocks.
+// The plain body of a pool uses the same blocks.
 #[doc(hidden)]
 pub use block::Block;
 pub use chunk::Chunk;

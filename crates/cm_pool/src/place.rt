@@ -1,9 +1,9 @@
-// Where the words of a record lie.
+// Where the words of a record are.
 ghost use Rattle.std.specs.Prelude.{◌↔◌, IsTrue};
 
 use crate::chunk::Chunk;
 
-/// The `words` words of a chunk from its `offset`-th on.
+/// The `words` words of a chunk, starting at its `offset`-th.
 #[derive(Clone, Copy, Debug, PartialEq, Eq)]
 pub struct Place {
     pub chunk: Chunk,
@@ -14,8 +14,8 @@ pub struct Place {
 impl Place {
     ghost use Rattle.cm_pool.specs.Places.{IsInside};
 
-    /// Whether these are words inside the chunk, at least one. A place that was read from a file
-    /// may have any numbers.
+    /// Whether these are words inside the chunk, and at least one. A place read from a file may
+    /// have any numbers.
     pub fn is_inside(&self) -> bool
         ensures { IsTrue result ↔ IsInside self.now }
     {

@@ -11,11 +11,11 @@ use crate::rows::{empty_rows, first_of_order, give_back, holder_of, mark, take_o
 use std::alloc::{AllocError, Global};
 use std::marker::Model;
 
-/// The free chunks of the roots that are present.
+/// The free chunks of the roots that are present. => The free chunks of the present roots.
 ///
 /// Contracts see a pool as its geometry, the number of its present roots, and the set of their free
-/// words. A chunk is free where all its words are. As in the buddy scheme of OpenJDK JEP 387, what
-/// is given back is free as a part of every larger chunk too.
+/// words. A chunk is free if all its words are. As in the buddy scheme of OpenJDK JEP 387, a chunk
+/// that is given back is also free as a part of every larger chunk.
 #[derive(Drop)]
 pub struct Pool {
     geometry: Geometry,
@@ -40,7 +40,7 @@ impl Pool {
     ghost use Rattle.cm_pool.specs.FreeSpace.{FreeSpace, IsFreeSpace, IsFreeChunk, IsUsedChunk};
     ghost use Rattle.cm_pool.specs.FreeSpace.{IsFirstFree, HasFree, without, with_chunk, with_root};
 
-    /// A pool with no roots. The memory that it will ever need is taken here.
+    /// A pool with no roots. The memory that it will ever need is allocated here.
     pub fn new(alloc: Global, geometry: Geometry) -> Result<Pool, AllocError>
         ensures { IfOk result
             (λ p. p ≡ record { geometry = geometry; roots = 0; free = set.empty }) }
@@ -61,7 +61,7 @@ impl Pool {
         self.geometry
     }
 
-    /// Does nothing: its clause says what every pool keeps.
+    /// Does nothing: its clause states the invariant of every pool.
     pub fn invariant_holds(&self)
         ensures { IsFreeSpace self.now }
     {
@@ -76,15 +76,15 @@ impl Pool {
         self.roots
     }
 
-    /// Makes one root more present, all of it free. False, and nothing is changed, where all roots
-    /// are present.
+    /// Makes one more root present, with all its words free. Returns false, and changes nothing, if
+    /// all roots are present.
     pub fn add_root(&mut self) -> Result<bool, AllocError>
         ensures added { IfOk result (λ added. IsTrue added
             ↔ (self.old.roots < self.old.geometry.roots)) }
         ensures left { MatchResult result
             (λ added. self.new ≡ (if added then with_root self.old else self.old))
             (λ _. self.new ≡ self.old) }
-        // A pool that could not have another root never asks for memory.
+        // A pool that can't have another root never allocates.
         ensures memory { OnErr result (self.old.roots < self.old.geometry.roots) }
     {
         if self.roots >= self.geometry.roots() {
@@ -99,9 +99,8 @@ impl Pool {
         Ok(true)
     }
 
-    /// Takes the first free chunk of an order: the one in the first root that has one, and there
-    /// the one furthest to the front. `None`, and nothing is changed, where no chunk of that order
-    /// is free.
+    /// Takes the first free chunk of an order: the first one in the first root that has one.
+    /// Returns `None`, and changes nothing, if no chunk of that order is free.
     pub fn alloc(&mut self, order: u32) -> Option<Chunk>
         requires { order ≤ self.old.geometry.top }
         ensures none { IsNone result ↔ ¬ HasFree self.old order }
@@ -116,8 +115,8 @@ impl Pool {
         Some(wanted.to_chunk(top))
     }
 
-    /// Takes this chunk. False, and nothing is changed, where it isn't a chunk of a present root or
-    /// one of its words isn't free.
+    /// Takes this chunk. Returns false, and changes nothing, if it isn't a chunk of a present root
+    /// or one of its words isn't free.
     pub fn take(&mut self, chunk: &Chunk) -> bool
         ensures free { IsTrue result ↔ IsFreeChunk self.old chunk.now }
         ensures left { self.new ≡ (if result then without self.old chunk.now else self.old) }
@@ -133,7 +132,7 @@ impl Pool {
         true
     }
 
-    /// Makes a chunk of a present root free, of which no word is.
+    /// Frees a chunk of a present root that has no free word.
     pub fn give(&mut self, chunk: Chunk)
         requires { IsUsedChunk self.old chunk }
         ensures { self.new ≡ with_chunk self.old chunk }

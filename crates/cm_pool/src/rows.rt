@@ -1,10 +1,10 @@
-// The pool's rows of bits, one for each order. In the row of an order stands a bit for each block
-// of that order, set where the block is free and the other half of the block above isn't wholly so.
+// The pool's rows of bits, one for each order. The row of an order has a bit for each block of that
+// order, set if the block is free and its other half, the buddy, isn't entirely free.
 ghost use Rattle.std.specs.Prelude.{◌≡◌, ℕ, ◌+◌, ◌<◌, ◌≤◌, ◌&&◌, ◌||◌, ◌⊎◌, ◌↔◌, IsTrue, true};
 ghost use Rattle.std.specs.Prelude.{false, not, length, vec_len, IfOk, IfSome, IfNone};
 ghost use Rattle.cm_pool.specs.Blocks.{is_in, start, Inside, other_half};
 ghost use Rattle.cm_pool.specs.Rows.{is_marked as is_marked_in, is_covered, with_mark};
-ghost use Rattle.cm_pool.specs.Rows.{without_mark, HasPlace, IsKept, AreEmpty, IsFirstFrom};
+ghost use Rattle.cm_pool.specs.Rows.{without_mark, HasPlace, AreBitRows, AreEmpty, IsFirstFrom};
 
 use crate::BitRow;
 use crate::block::Block;
@@ -48,7 +48,7 @@ fn unmark(rows: &mut Vec<BitRow>, block: Block)
     rows[block.order as usize].remove(block.index);
 }
 
-// The one of two blocks that begins first.
+// Whichever of two blocks begins first.
 fn first_of(a: Option<Block>, b: Option<Block>) -> Option<Block>
     requires a_small { IfSome a (λ x. x.order ≤ 12) }
     requires b_small { IfSome b (λ x. x.order ≤ 12) }
@@ -86,7 +86,7 @@ pub fn first_of_order(rows: &[BitRow], order: u32) -> Option<Block>
     first
 }
 
-/// The block that `part` is in.
+/// The marked block that contains `part`.
 pub fn holder_of(rows: &[BitRow], part: Block) -> Option<Block>
     requires { length rows.now ≤ 13 }
     ensures some { IfSome result (λ b. (is_marked_in rows.now b ≡ true) × Inside part b) }
@@ -101,15 +101,15 @@ pub fn holder_of(rows: &[BitRow], part: Block) -> Option<Block>
     None
 }
 
-/// Takes `wanted` out of the block `from`, which it lies in. The rest of that block stays, in
+/// Takes `wanted` out of the block `from`, which contains it. What is left of that block stays, in
 /// halves.
 pub fn take_out(rows: &mut Vec<BitRow>, from: Block, wanted: Block)
-    requires kept { (top : ℕ) × (limit : ℕ) × IsKept top limit rows.old.items }
+    requires kept { (top : ℕ) × (limit : ℕ) × AreBitRows top limit rows.old.items }
     requires orders { vec_len rows.old ≤ 13 }
     requires from { is_marked_in rows.old.items from ≡ true }
     requires inside { Inside wanted from }
-    ensures kept { (top limit : ℕ) → IsKept top limit rows.old.items
-        → IsKept top limit rows.new.items }
+    ensures kept { (top limit : ℕ) → AreBitRows top limit rows.old.items
+        → AreBitRows top limit rows.new.items }
     ensures covered { (g : ℕ)
         → is_covered rows.new.items g ≡ (is_covered rows.old.items g && not (is_in wanted g)) }
 {
@@ -127,7 +127,7 @@ pub fn take_out(rows: &mut Vec<BitRow>, from: Block, wanted: Block)
     }
 }
 
-// Whether the other half of a block is free, so that a larger one can be made of the two.
+// Whether the other half of a block is free, so that the two can be joined.
 fn joins(rows: &[BitRow], block: Block, top: u32) -> bool
     ensures { IsTrue result ↔ ((block.order < top)
         × (is_marked_in rows.now (other_half block) ≡ true)) }
@@ -135,15 +135,15 @@ fn joins(rows: &[BitRow], block: Block, top: u32) -> bool
     block.order < top && is_marked(rows, block.other_half())
 }
 
-/// Puts a block back of which nothing is free, joined with its other half as long as that is free.
+/// Puts back a block of which nothing is free, joined with its other half as long as that is free.
 pub fn give_back(rows: &mut Vec<BitRow>, top: u32, given: Block)
-    requires kept { (limit : ℕ) × IsKept top limit rows.old.items × ((g : ℕ)
+    requires kept { (limit : ℕ) × AreBitRows top limit rows.old.items × ((g : ℕ)
         → is_in given g ≡ true → g < limit) }
     requires top { top ≤ 12 }
     requires order { given.order ≤ top }
     requires taken { (g : ℕ) → is_in given g ≡ true → is_covered rows.old.items g ≡ false }
-    ensures kept { (limit : ℕ) → IsKept top limit rows.old.items → ((g : ℕ)
-        → is_in given g ≡ true → g < limit) → IsKept top limit rows.new.items }
+    ensures kept { (limit : ℕ) → AreBitRows top limit rows.old.items → ((g : ℕ)
+        → is_in given g ≡ true → g < limit) → AreBitRows top limit rows.new.items }
     ensures covered { (g : ℕ)
         → is_covered rows.new.items g ≡ (is_in given g || is_covered rows.old.items g) }
 {

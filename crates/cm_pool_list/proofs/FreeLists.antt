@@ -1,5 +1,4 @@
--- Lists of free blocks: what they cover, what lies in them, and that what they cover determines
--- them.
+-- Lists of free blocks: what they cover, what is in them, and that what they cover determines them.
 -- For `ListPool::alloc`, `give_back`, `take_at`.
 use Rattle.std.proofs.Common.{◌≡◌, ℕ, zero, suc, ◌+◌, ◌-◌, ◌*◌, ◌/◌, ◌^◌, ◌<◌, ◌≤◌, Bool, true}
 use Rattle.std.proofs.Common.{false, ◌||◌, eqb, List, [], ◌∷◌, ◌++◌, length, refl, sym, ap, ◌∙◌}
@@ -16,7 +15,7 @@ use Rattle.cm_pool.specs.Lists.{Among}
 use Rattle.cm_pool.proofs.Dyadic.{half_eq, twice, is_in-bounds, is_in-start, is_in-last}
 use Rattle.cm_pool.proofs.Dyadic.{inside-is_in, inside-same_order, inside-from_shared}
 
--- what the list covers lies in one of its blocks
+-- what the list covers is in one of its blocks
 pub covering : (bs : List Block) (g : ℕ) → is_covered bs g ≡ true → (b : Block) × Among b bs
     × (is_in b g ≡ true)
 covering [] g h = absurd (both_ways false refl h)
@@ -37,14 +36,14 @@ swap_or true true c = refl
 swap_or true false c = refl
 swap_or false b c = refl
 
--- a block in the middle covers what it would cover in front
+-- a block in the middle covers what it would cover at the front
 pub covered-middle : (xs : List Block) (b : Block) (ys : List Block) (g : ℕ)
     → is_covered (xs ++ b ∷ ys) g ≡ (is_in b g || is_covered (xs ++ ys) g)
 covered-middle [] b ys g = refl
 covered-middle (x ∷ xs) b ys g = ap
     (λ c. is_in x g || c) (covered-middle xs b ys g) ∙ swap_or (is_in x g) (is_in b g) _
 
--- blocks that lie before a block share no granule with it
+-- blocks that are before a block share no granule with it
 pub apart-front : (xs : List Block) (b : Block) (g : ℕ) → AllByRecursion
     (λ x. stop x ≤ start b) xs → is_in b g ≡ true → is_covered xs g ≡ false
 apart-front [] b g a h = refl
@@ -80,8 +79,8 @@ pub apart-both : (xs ys : List Block) (b : Block) (g : ℕ) → AllByRecursion
 apart-both xs ys b g f r h = covered-append xs ys g ∙
     (λ i. apart-front xs b g f h i || apart-back b ys g r h i)
 
--- Two blocks don't begin in one pair of granules: two single granules would be joined, and a larger
--- block takes up whole pairs.
+-- No two blocks begin in the same pair of granules: two single granules would be joined, and a
+-- larger block takes up whole pairs.
 next-pair : (top : ℕ) (a b : Block) → 0 < top → Apart top a b → start a / 2 < start b / 2
 next-pair top a b pos h =
     elim (cases_lt 0 a.order) [
@@ -155,7 +154,7 @@ halves i o g =
     ap (λ k. eqb (g / 2 ^ k) i) order ∙ ap
     (λ x. eqb x i) (sym (shr-shr g o 1)) ∙ half_eq (g / 2 ^ o) i
 
--- what holds a half and is longer holds the whole
+-- a block that contains a half and is larger contains the whole
 larger : (i o : ℕ) (half c : Block) → ((g : ℕ) → is_in half g ≡ true
     → is_in (block i (suc o)) g ≡ true) → suc o ≤ c.order → Inside half c
     → Inside (block i (suc o)) c
@@ -163,7 +162,7 @@ larger i o half c part le h =
     inside-from_shared (block i (suc o)) c (start half) le (part (start half) (is_in-start half))
     (inside-is_in half c (start half) h (is_in-start half))
 
--- the halves of one block stand in no such list
+-- the halves of one block are in no such list
 no-halves : (top : ℕ) (bs : List Block) → Pairwise (Apart top) bs → (o i : ℕ) → o < top
     → Among (block (2 * i) o) bs → Among (block (2 * i + 1) o) bs → ⊥
 no-halves top bs p o i lt m n =
@@ -206,8 +205,8 @@ holder-cases top bs o i p lt (b, m, in_b) (c, n, in_c) =
           ]
     ]
 
--- A block that is covered lies in one block of the list: two of them would be halves, and so be
--- one.
+-- A block that is covered is in one block of the list: two of them would be halves, and so be
+-- joined.
 pub covered-inside : (top : ℕ) (bs : List Block) → Pairwise (Apart top) bs → (o i : ℕ) → o ≤ top
     → ((g : ℕ) → is_in (block i o) g ≡ true → is_covered bs g ≡ true) → Holder bs (block i o)
 covered-inside top bs p zero i le h =

@@ -22,7 +22,7 @@ use Rattle.cm_pool_list.proofs.FreeLists.{covered-middle, apart-both}
 abbrev Before : Block → Block → Type 0
 Before a b = stop a ≤ start b
 
--- an element and the two parts round it
+-- an element and the two parts around it
 pub split_at : {X : Type 0} (xs : List X) (at : ℕ) (d : X) → at < length xs
     → xs ≡ take at xs ++ get_or xs at d ∷ drop (suc at) xs
 split_at xs at d h =
@@ -72,7 +72,7 @@ hole-remove top xs ys at d lt h e =
     ap (drop at) e ∙ drop_at (take at xs) (drop (suc at) xs) at len in
     rw (front, back) hole
 
--- the list alone
+-- the list by itself
 pub hole-rest : (top : ℕ) (xs : List Block) (at : ℕ) (b : Block)
     → IsHole top (take at xs) b (drop at xs) → IsFreeList top xs
 hole-rest top xs at b h = subst (IsFreeList top) (take-append-drop at xs) h.rest
@@ -84,7 +84,7 @@ hole-apart top xs at b g h in_b =
     ap (λ ys. is_covered ys g) (sym (take-append-drop at xs))
     ∙ apart-both (take at xs) (drop at xs) b g h.before h.behind in_b
 
--- b is halved: the right half stays behind the left one, which was taken
+-- b is halved: the right half stays, after the left one, which was taken
 halve-left : (top : ℕ) (f : List Block) (b : Block) (r : List Block) → 0 < b.order
     → IsHole top f b r → IsHole top f (left_half b) (right_half b ∷ r)
 unfolding left_half right_half
@@ -131,7 +131,7 @@ halve-left top f b r pos h =
       );
     }
 
--- b is halved: the left half stays before the right one, which was taken
+-- b is halved: the left half stays, before the right one, which was taken
 halve-right : (top : ℕ) (f : List Block) (b : Block) (r : List Block) → 0 < b.order
     → IsHole top f b r → IsHole top (f ++ left_half b ∷ []) (right_half b) r
 unfolding left_half right_half
@@ -204,7 +204,7 @@ hole-put_left top xs ys at b le pos h e =
     ap (drop (at + 1)) grouped ∙ drop_at f (drop at xs) (at + 1) len in
     rw (front, back) (halve-right top (take at xs) b (drop at xs) pos h)
 
--- what is left where a part of a whole was taken
+-- what is left after a part of a whole is taken
 pub without_part : (a c o : Bool) → (a || c) ≡ o → (a ≡ true → c ≡ false) → c ≡ (o && not a)
 without_part true c o e h = h refl ∙ ap (λ x. x && false) e
 without_part false c o e h = e ∙ and_true o
@@ -223,7 +223,7 @@ or_turned true false c = refl
 or_turned false true c = refl
 or_turned false false c = refl
 
--- with the halves apart, the same is covered or taken
+-- once a block is split into halves, the same granules are covered or taken
 pub covered-put_right : (xs : List Block) (at : ℕ) (b : Block) (g : ℕ) → 0 < b.order
     → (is_in (left_half b) g || is_covered (insert xs at (right_half b)) g)
     ≡ (is_in b g || is_covered xs g)
@@ -240,6 +240,6 @@ covered-put_left xs at b g pos =
     ∙ or_turned (is_in (left_half b) g) (is_in (right_half b) g) (is_covered xs g)
     ∙ ap (λ a. a || is_covered xs g) (sym (is_in-halves b g pos))
 
--- a block that lies low has a low index
+-- a block that starts below a limit has an index below it
 pub index-below : (b : Block) (limit : ℕ) → start b < limit → b.index < limit
 index-below b limit h = omega (arith, mul-le-mul_left b.index (pow_pos b.order))

@@ -1,4 +1,4 @@
--- A block that comes back: it is joined with its other half as long as that stands beside it.
+-- A block that is given back: it is joined with its other half as long as that is next to it.
 -- For `give_back`.
 use Rattle.std.proofs.Common.{◌≡◌, ℕ, suc, ◌+◌, ◌-◌, ◌<◌, ◌≤◌, Bool, true, false, ◌||◌, List, []}
 use Rattle.std.proofs.Common.{◌∷◌, ◌++◌, length, get_or, take, drop, refl, sym, ap, ◌∙◌, subst, inl}
@@ -52,7 +52,7 @@ clear-back (y ∷ ys) b h a = (
   clear-back ys b (λ g in_b. (or_parts (is_in y g) _ (h g in_b)).1) a.1,
 )
 
--- what stands later begins later
+-- what comes later in the list begins later
 later : (top : ℕ) (ys : List Block) (b : Block) → Pairwise (Apart top) ys → (0 < length ys
     → start b < start (get_or ys 0 b)) → AllByRecursion (λ y. start b < start y) ys
 later top [] b p h = tt
@@ -89,7 +89,7 @@ hole-begin top xs at b listed small clear le front next =
           (λ y. start b < start y) (sym first) (next (omega (arith, length-drop at xs)))));
     }
 
--- the left half stands before b: the two are joined
+-- the left half is just before b: the two are joined
 join-left : (top : ℕ) (f : List Block) (x b : Block) (r : List Block)
     → IsHole top (f ++ x ∷ []) b r → AreHalves x b → b.order < top → IsHole top f (block_above b) r
 join-left top f x b r h halves lt =
@@ -180,7 +180,7 @@ covered-join xs k at b g beside =
     or_comm false true = refl
     or_comm false false = refl
 
--- only the last block before b can be its half, and only the first one behind it
+-- only the last block before b can be its half, and only the first one after it
 fill-front : (top : ℕ) (f : List Block) (b : Block) → Pairwise (Apart top) f → AllByRecursion
     (λ x. stop x ≤ start b) f → ((k : ℕ) → length f ≡ suc k → b.order < top
     → ¬ AreHalves (get_or f k b) b) → AllByRecursion (λ x. Apart top x b) f
@@ -226,7 +226,7 @@ fill-back top b (y ∷ r) p behind none = (
   }) r p.0,
 )
 
--- the block goes into its place, where it has no half beside it
+-- the block is put in its place, if it has no half next to it
 pub hole-fill : (top : ℕ) (xs : List Block) (at : ℕ) (b : Block) → at ≤ length xs
     → IsHole top (take at xs) b (drop at xs) → (b.order < top → HasNoHalfBeside xs at b)
     → IsFreeList top (insert xs at b)

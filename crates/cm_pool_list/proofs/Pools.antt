@@ -1,4 +1,4 @@
--- A pool's list of blocks and what it is seen as.
+-- A pool's list of blocks and the value that it is seen as.
 -- For `ListPool::add_root`, `ListPool::alloc`, `ListPool::geometry` and others.
 use Rattle.std.proofs.Common.{◌≡◌, ℕ, suc, ◌+◌, ◌-◌, ◌*◌, ◌/◌, ◌^◌, ◌<◌, ◌≤◌, true, false, ◌||◌}
 use Rattle.std.proofs.Common.{◌&&◌, not, List, [], ◌∷◌, ◌++◌, length, get_or, take, drop, refl, sym}
@@ -30,7 +30,7 @@ use Rattle.cm_pool.proofs.Places.{chunk-place}
 use Rattle.cm_pool_list.proofs.Spaces.{contains-space_of, free-covered, covered-free}
 use Rattle.cm_pool_list.proofs.Spaces.{space-with_root}
 
--- all words of a pool's list lie in present roots
+-- all words of a pool's list are in present roots
 pub lawful : (sizes : Sizes) (roots capacity : ℕ) (bs : List Block)
     → IsPool sizes roots capacity bs → IsFreeSpace (space_of sizes roots bs)
 lawful sizes roots capacity bs h =
@@ -45,7 +45,7 @@ lawful sizes roots capacity bs h =
           lt_of_mul-lt-mul_right (2 ^ sizes.top) below;
     }
 
--- and below what there is room for
+-- all words of a pool's list are below what there is room for
 pub room-below : (sizes : Sizes) (roots capacity : ℕ) (bs : List Block)
     → IsPool sizes roots capacity bs → (g : ℕ) → g < roots * 2 ^ sizes.top → (g < 2 * capacity)
     × (g < 2 ^ 20)
@@ -94,7 +94,7 @@ pool-given sizes roots capacity capacity' old new b h within listed covered more
       room = omega (arith, h.room);
     }
 
--- a free chunk lies in one block of the list
+-- a free chunk is in one block of the list
 pub free-held : (sizes : Sizes) (roots : ℕ) (bs : List Block) (c : Chunk) (b : Block)
     → IsFreeList sizes.top bs → IsSame sizes.top c b → IsFreeChunk (space_of sizes roots bs) c
     → Holder bs b
@@ -102,7 +102,7 @@ free-held sizes roots bs c b listed same free =
     covered-inside sizes.top bs listed.apart b.order b.index
     (omega (arith, same.order, free.block.within_top)) (free-covered sizes roots bs c b same free)
 
--- the chunk of a block that lies in one of the list's is free
+-- the chunk of a block inside one of the list's is free
 pub held-free : (sizes : Sizes) (roots : ℕ) (bs : List Block) (c : Chunk) (b x : Block)
     → IsSame sizes.top c b → IsBlock sizes.top roots c → Among x bs → Inside b x
     → IsFreeChunk (space_of sizes roots bs) c
@@ -120,7 +120,7 @@ pub same-block_of : (top roots : ℕ) (c : Chunk) → IsBlock top roots c
 same-block_of top roots c h =
     record { order = refl; place = chunk-place top c h.within_top h.aligned }
 
--- where all blocks are of smaller orders, no chunk of the order is free
+-- if all blocks are of smaller orders, no chunk of the order is free
 pub none-free : (sizes : Sizes) (roots : ℕ) (bs : List Block) (order : ℕ)
     → IsFreeList sizes.top bs → AllByRecursion (λ b. b.order < order) bs
     → ¬ HasFree (space_of sizes roots bs) order
@@ -129,7 +129,7 @@ none-free sizes roots bs order listed small (c, of_order, free) =
     let held = free-held sizes roots bs c (block_of sizes.top c) listed same free in
     absurd (omega (arith, held.2.smaller, each-among (λ b. b.order < order) bs held.0 small held.1))
 
--- a block that is none of the first ones stands at the place or behind it
+-- a block that isn't among the first ones is at the place or after it
 not-front : (P : Block → Type 0) (bs : List Block) (x b : Block) (rest : List Block)
     → AllByRecursion P bs → ¬ P x → Among x (bs ++ b ∷ rest) → (x ≡ b) ⊎ Among x rest
 not-front P [] x b rest a not_p m = m
@@ -160,7 +160,7 @@ first-start sizes roots bs order at d c listed within small free of_order =
           omega (arith, before.before, pow_pos (get_or bs at d).order)
     ]
 
--- what begins no later doesn't lie behind
+-- what begins no later does not come after
 pub not-before : (top roots : ℕ) (c d : Chunk) (b : Block) → IsSame top c b → IsBlock top roots d
     → start b ≤ start (block_of top d) → ¬ LiesBefore d c
 not-before top roots c d b same block le before =
@@ -214,7 +214,7 @@ new-fits sizes h =
     mul-le sizes.roots (2 ^ (sizes.top - 1)) 256 2048 h.roots_to size in
     omega arith
 
--- one root more stands at the end
+-- one more root is at the end
 abbrev pub root_block : Sizes → ℕ → Block
 root_block sizes roots = record { index = roots; order = sizes.top }
 
@@ -262,7 +262,7 @@ root-space sizes roots bs new e =
     (record { order = refl; place = omega arith })
     (λ g. ap (λ ys. is_covered ys g) e ∙ root-covered sizes roots bs g)
 
--- a block of the list lies in the present roots
+-- a block of the list is in the present roots
 pub listed-stop : (sizes : Sizes) (roots capacity : ℕ) (bs : List Block) (x : Block)
     → IsPool sizes roots capacity bs → Among x bs → stop x ≤ roots * 2 ^ sizes.top
 listed-stop sizes roots capacity bs x h among = each-among

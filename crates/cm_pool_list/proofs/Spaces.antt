@@ -1,4 +1,4 @@
--- What lists of blocks are seen as: the words that their blocks have.
+-- The value that lists of blocks are seen as: the words of their blocks.
 -- For `ListPool::alloc`, `ListPool::give`, `ListPool::take`.
 use Rattle.std.proofs.Common.{◌≡◌, ℕ, ◌+◌, ◌*◌, ◌/◌, ◌<◌, ◌≤◌, Bool, true, false, ◌||◌, ◌&&◌, not}
 use Rattle.std.proofs.Common.{List, [], ◌∷◌, refl, sym, ap, ◌∙◌, subst, arith, Decides}
@@ -20,7 +20,7 @@ use Rattle.cm_pool_list.specs.Blocks.{is_covered, block_words, space_of}
 use Rattle.cm_pool.proofs.Dyadic.{is_in-bounds, is_in-from_bounds}
 use Rattle.cm_pool.proofs.{range-decides, words-decides, same_numbers, chunk-word}
 
--- a word of a block lies in one of its granules
+-- a word of a block is in one of its granules
 granule : (b : Block) (n : ℕ) → Decides (is_in b (n / 128)) ((b.index * chunk_size b.order ≤ n)
     × (n < b.index * chunk_size b.order + chunk_size b.order))
 granule b n = (
@@ -40,7 +40,7 @@ numbers (b ∷ bs) n =
     list_any-append (λ y. nat_eq y n) (block_words b) (flat_map block_words bs) ∙
     (λ i. block-numbers b n i || numbers bs n i)
 
--- a word is free exactly where its granule is covered
+-- a word is free exactly if its granule is covered
 pub contains-space_of : (sizes : Sizes) (roots : ℕ) (bs : List Block) (n : ℕ)
     → contains (space_of sizes roots bs).free n ≡ is_covered bs (n / 128)
 contains-space_of sizes roots bs n =
@@ -125,7 +125,7 @@ used-uncovered sizes roots bs c b same used g h =
           ∙ contains-space_of sizes roots bs (128 * g) ∙ ap (is_covered bs) whole ∙ e;
     }))
 
--- and a chunk whose block is covered is free
+-- a chunk whose block is covered is free
 pub covered-free : (sizes : Sizes) (roots : ℕ) (bs : List Block) (c : Chunk) (b : Block)
     → IsSame sizes.top c b → IsBlock sizes.top roots c → ((g : ℕ) → is_in b g ≡ true
     → is_covered bs g ≡ true) → IsFreeChunk (space_of sizes roots bs) c

@@ -1,5 +1,5 @@
--- How the pool keeps its free words: a list of blocks in order, as large as they can be.
--- No public contract speaks of these; they are the invariant behind `Pool`.
+-- How the pool keeps its free words: a sorted list of blocks, as large as they can be. No public
+-- contract refers to these; they are the invariant of `ListPool`.
 use Rattle.std.specs.Prelude.{◌≡◌, ℕ, ◌+◌, ◌-◌, ◌*◌, ◌%◌, ◌^◌, ◌<◌, ◌≤◌, Bool, true}
 use Rattle.std.specs.Prelude.{List, ◌++◌, ◌⊎◌, length, slice_index_or}
 use Rattle.std.specs.List.{AllByRecursion, list_any, range_with_len, flat_map}
@@ -22,13 +22,13 @@ pub record AreHalves (a b : Block) : Type 0 where
   pub left : a.index % 2 ≡ 0
   pub right : b.index ≡ a.index + 1
 
--- a lies before b, and where they are the halves of a block of order at most top, that one would
--- stand in their place
+-- a is before b; and if they are the halves of a block of order at most top, they would have to be
+-- joined
 pub record Apart (top : ℕ) (a b : Block) : Type 0 where
   pub before : stop a ≤ start b
   pub unjoined : a.order < top → ¬ AreHalves a b
 
--- blocks of order at most top, in order, none of which could be larger
+-- a sorted list of blocks of order at most top, none of which could be larger
 pub record IsFreeList (top : ℕ) (bs : List Block) : Type 0 where
   pub apart : Pairwise (Apart top) bs
   pub small : AllByRecursion (λ b. b.order ≤ top) bs
@@ -40,13 +40,13 @@ pub record IsHole (top : ℕ) (front : List Block) (b : Block) (back : List Bloc
   pub before : AllByRecursion (λ x. stop x ≤ start b) front
   pub behind : AllByRecursion (λ x. stop b ≤ start x) back
 
--- the half of b stands at k, beside the place `at` of b
+-- the half of b is at k, next to the place `at` of b
 pub record IsHalfBeside (bs : List Block) (k at : ℕ) (b : Block) : Type 0 where
   pub within : k < length bs
   pub halves : ((k + 1 ≡ at) × AreHalves (slice_index_or bs k b) b) ⊎ ((k ≡ at)
       × AreHalves b (slice_index_or bs k b))
 
--- none of the two blocks beside the place `at` is a half of b
+-- neither block next to the place `at` is a half of b
 pub record HasNoHalfBeside (bs : List Block) (at : ℕ) (b : Block) : Type 0 where
   pub left : 0 < at → ¬ AreHalves (slice_index_or bs (at - 1) b) b
   pub right : at < length bs → ¬ AreHalves b (slice_index_or bs at b)
@@ -55,12 +55,12 @@ pub record HasNoHalfBeside (bs : List Block) (at : ℕ) (b : Block) : Type 0 whe
 abbrev pub block_words : Block → List ℕ
 block_words b = range_with_len (b.index * chunk_size b.order) (chunk_size b.order)
 
--- what a pool of these sizes, with these roots and blocks, is seen as
+-- the value that a pool of these sizes, with these roots and blocks, is seen as
 abbrev pub space_of : Sizes → ℕ → List Block → FreeSpace
 space_of sizes roots bs =
     record { geometry = sizes; roots = roots; free = from_list (flat_map block_words bs) }
 
--- what a pool keeps
+-- the invariant of a pool's fields
 pub record IsPool (sizes : Sizes) (roots capacity : ℕ) (bs : List Block) : Type 0 where
   pub sizes_ok : IsGeometry sizes
   pub few_roots : roots ≤ sizes.roots

@@ -1,4 +1,4 @@
-// The pool's list of free blocks: in order, and each as large as it can be.
+// The pool's list of free blocks: sorted, and each block as large as it can be.
 ghost use Rattle.std.specs.Prelude.{◌≡◌, ℕ, ◌+◌, ◌-◌, ◌*◌, ◌^◌, ◌<◌, ◌≤◌, ◌&&◌, ◌||◌, Bool, true};
 ghost use Rattle.std.specs.Prelude.{◌↔◌, IsTrue, false, not, length, take, drop, slice_index_or};
 ghost use Rattle.std.specs.Prelude.{vec_len};
@@ -10,7 +10,7 @@ ghost use Rattle.cm_pool_list.specs.Blocks.{IsHole, IsHalfBeside, HasNoHalfBesid
 
 use cm_pool::Block;
 
-/// Where the first block of at least this order stands.
+/// Where the first block of at least this order is.
 pub fn first_of_order(free: &[Block], order: u32) -> Option<usize>
     ensures some { IfSome result (λ at. (at < length free.now) × ((d : _)
         → order ≤ (slice_index_or free.now at d).order)) }
@@ -25,7 +25,7 @@ pub fn first_of_order(free: &[Block], order: u32) -> Option<usize>
     None
 }
 
-/// Where the block stands that `part` is in.
+/// Where the block that `part` is in is.
 pub fn holder_of(free: &[Block], part: Block) -> Option<usize>
     requires { AllByRecursion (λ b. b.order ≤ 12) free.now }
     ensures some { IfSome result (λ at. (at < length free.now)
@@ -57,7 +57,7 @@ pub fn place_of(free: &[Block], block: Block) -> usize
     free.len()
 }
 
-// Puts a block in its place, where there is room for it.
+// Puts a block in its place, if there is room for it.
 fn put(free: &mut Vec<Block>, at: usize, block: Block)
     requires at { at ≤ vec_len free.old }
     requires room { vec_len free.old < vec_capacity free.old }
@@ -67,8 +67,8 @@ fn put(free: &mut Vec<Block>, at: usize, block: Block)
     free.insert(at, block).unwrap();
 }
 
-/// Takes `wanted` out of the block at `from`, which it lies in. The rest of that block stays in the
-/// list, in halves.
+/// Takes `wanted` out of the block at `from`, which contains it. What is left of that block stays
+/// in the list, in halves.
 pub fn take_at(free: &mut Vec<Block>, from: usize, wanted: Block)
     requires listed { (top : ℕ) × (3 ≤ top) × (top ≤ 12) × IsFreeList top free.old.items }
     requires from { from < vec_len free.old }
@@ -95,15 +95,15 @@ pub fn take_at(free: &mut Vec<Block>, from: usize, wanted: Block)
     }
 }
 
-/// Whether the two are the left and the right half of one block.
+/// Whether the two blocks are the left and the right half of one block.
 fn are_halves(left: Block, right: Block) -> bool
     ensures { IsTrue result ↔ AreHalves left right }
 {
     left.order == right.order && left.index % 2 == 0 && left.index + 1 == right.index
 }
 
-// Where the other half of `block` stands, beside its place, if a block of a larger order can be
-// made of the two.
+// Where the other half of `block` is, next to the block's place, if the two make a block of a
+// larger order.
 fn half_beside(free: &[Block], at: usize, block: Block, top: u32) -> Option<usize>
     requires { at ≤ length free.now }
     ensures some { IfSome result (λ k. IsHalfBeside free.now k at block) }
@@ -122,7 +122,7 @@ fn half_beside(free: &[Block], at: usize, block: Block, top: u32) -> Option<usiz
     None
 }
 
-/// Puts a block back that shares nothing with the list, joined with its other half as long as that
+/// Puts back a block that shares nothing with the list, joined with its other half as long as that
 /// is free.
 pub fn give_back(free: &mut Vec<Block>, top: u32, given: Block)
     requires listed { IsFreeList top free.old.items }

@@ -1,4 +1,4 @@
-//! A pool as a sorted list of free blocks: a plain body of the same contract, for tests.
+//! A pool as a sorted list of free blocks: a plain body with the same contract, for tests.
 #![tactic(auto)]
 
 mod free_list;

@@ -8,9 +8,9 @@ use cm_pool::{Block, Chunk, Geometry};
 use std::alloc::{AllocError, Global};
 use std::marker::Model;
 
-/// The free chunks of the roots that are present, as a sorted list of the largest ones.
+/// The free chunks of the present roots, as a sorted list of the largest ones.
 ///
-/// Contracts see it as they see [`cm_pool::Pool`], and each call promises what that one's does.
+/// Contracts see it as they see [`cm_pool::Pool`], and each call makes the same promises.
 #[derive(Drop)]
 pub struct ListPool {
     geometry: Geometry,
@@ -36,7 +36,7 @@ impl ListPool {
     ghost use Rattle.cm_pool.specs.FreeSpace.{FreeSpace, IsFreeSpace, IsFreeChunk, IsUsedChunk};
     ghost use Rattle.cm_pool.specs.FreeSpace.{IsFirstFree, HasFree, without, with_chunk, with_root};
 
-    /// A pool with no roots. The memory that it will ever need is taken here.
+    /// A pool with no roots. The memory that it will ever need is allocated here.
     pub fn new(alloc: Global, geometry: Geometry) -> Result<ListPool, AllocError>
         ensures { IfOk result
             (λ p. p ≡ record { geometry = geometry; roots = 0; free = set.empty }) }
@@ -65,15 +65,15 @@ impl ListPool {
         self.roots
     }
 
-    /// Makes one root more present, all of it free. False, and nothing is changed, where all roots
-    /// are present.
+    /// Makes one more root present, with all its words free. Returns false, and changes nothing, if
+    /// all roots are present.
     pub fn add_root(&mut self) -> Result<bool, AllocError>
         ensures added { IfOk result (λ added. IsTrue added
             ↔ (self.old.roots < self.old.geometry.roots)) }
         ensures left { MatchResult result
             (λ added. self.new ≡ (if added then with_root self.old else self.old))
             (λ _. self.new ≡ self.old) }
-        // A pool that could not have another root never asks for memory.
+        // A pool that can't have another root never allocates.
         ensures memory { OnErr result (self.old.roots < self.old.geometry.roots) }
     {
         if self.roots >= self.geometry.roots() {
@@ -88,9 +88,8 @@ impl ListPool {
         Ok(true)
     }
 
-    /// Takes the first free chunk of an order: the one in the first root that has one, and there
-    /// the one furthest to the front. `None`, and nothing is changed, where no chunk of that order
-    /// is free.
+    /// Takes the first free chunk of an order: the first one in the first root that has one.
+    /// Returns `None`, and changes nothing, if no chunk of that order is free.
     pub fn alloc(&mut self, order: u32) -> Option<Chunk>
         requires { order ≤ self.old.geometry.top }
         ensures none { IsNone result ↔ ¬ HasFree self.old order }
@@ -105,8 +104,8 @@ impl ListPool {
         Some(wanted.to_chunk(top))
     }
 
-    /// Takes this chunk. False, and nothing is changed, where it isn't a chunk of a present root or
-    /// one of its words isn't free.
+    /// Takes this chunk. Returns false, and changes nothing, if it isn't a chunk of a present root
+    /// or one of its words isn't free.
     pub fn take(&mut self, chunk: &Chunk) -> bool
         ensures free { IsTrue result ↔ IsFreeChunk self.old chunk.now }
         ensures left { self.new ≡ (if result then without self.old chunk.now else self.old) }
@@ -122,7 +121,7 @@ impl ListPool {
         true
     }
 
-    /// Makes a chunk of a present root free, of which no word is.
+    /// Frees a chunk of a present root that has no free word.
     pub fn give(&mut self, chunk: Chunk)
         requires { IsUsedChunk self.old chunk }
         ensures { self.new ≡ with_chunk self.old chunk }

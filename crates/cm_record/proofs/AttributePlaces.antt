@@ -17,7 +17,7 @@ use Rattle.cm_record_layout.specs.Layout.{members_at, attributes_at, runs_at, at
 use Rattle.cm_record_layout.specs.Layout.{IsRecordOf}
 use Rattle.cm_class.specs.Names.{names_utf8}
 use Rattle.cm_record.specs.declared.run.Run.{Run}
-use Rattle.cm_record.specs.Members.{IsFirst}
+use Rattle.cm_record.specs.Members.{IsFirstIndex}
 use Rattle.cm_record.specs.Runs.{IsRunOf, attribute_run_at}
 use Rattle.cm_record.specs.Code.{code_name, attributes_before, attributes_place, run_place}
 use Rattle.cm_record_layout.proofs.{first-attribute, upper-attribute, all_attributes_len}
@@ -92,7 +92,7 @@ module _ (c : ClassFile) (spelled : HasSpelling c) (i : ℕ) (own : ClassMember)
       ∙ (member_place (methods_at c) c.methods (attributes_tail c) (2 * i) i own refl method
       ∙ same)))
 
-  -- its attributes stand within the record
+  -- its attributes are within the record
   pub attributes_within : attributes_place c i + 2 * length own.attributes ≤ length (lay c)
   attributes_within =
       let at_method = item_split c.methods i own method in
@@ -300,14 +300,14 @@ module _ (c : ClassFile) (words : List ℕ) (is : IsRecordOf c words) (i : ℕ) 
       ∙ (tested j a there ∙ named) in cc
 
   -- the attribute that was found
-  pub code_there : (found : ℕ) → IsFirst (code_test c words at) count found → (a : Attribute)
+  pub code_there : (found : ℕ) → IsFirstIndex (code_test c words at) count found → (a : Attribute)
       × (slice_get own.attributes found ≡ Some a) × (names_utf8 c a.name code_name ≡ true)
   code_there found first =
       let within = first.there in
       let a = item_there own.attributes found (omega (arith, within, all)) in
       (a.0, a.1, sym (tested found a.0 a.1) ∙ first.passes)
 
-  pub none_there : (found : ℕ) → IsFirst (code_test c words at) count found
+  pub none_there : (found : ℕ) → IsFirstIndex (code_test c words at) count found
       → ((j : ℕ) (a : Attribute) → slice_get own.attributes j ≡ Some a
       → names_utf8 c a.name code_name ≡ false) → ⊥
   none_there found first none =
@@ -329,7 +329,7 @@ module _ (c : ClassFile) (words : List ℕ) (is : IsRecordOf c words) (i : ℕ) 
       (λ n. get_or words (n + 2 * found + 1) 0) place
       ∙ run_at_place c words is i own method found a there)
 
-  pub found_is : (found : ℕ) → IsFirst (code_test c words at) count found
+  pub found_is : (found : ℕ) → IsFirstIndex (code_test c words at) count found
       → (j : ℕ) (a : Attribute) → slice_get own.attributes j ≡ Some a
       → names_utf8 c a.name code_name ≡ true
       → ((k : ℕ) (b : Attribute) → k < j → slice_get own.attributes k ≡ Some b

@@ -119,9 +119,9 @@ wide_by_word at (constant.MethodType descriptor) = narrow (16 + 2 ^ 32 * descrip
 wide_by_word at (constant.InvokeDynamic a b) = narrow (18 + 2 ^ 32 * a + 2 ^ 48 * b)
     (λ e. omega arith) (λ e. omega arith)
 
--- ---- where the words of a slot stand
+-- ---- where the words of a slot are
 
--- words behind the first of a constant: those of a wide one begin with its bits
+-- words after the first one of a constant: those of a wide constant begin with its bits
 abbrev behind : Bool → ℕ → List ℕ → List ℕ
 behind true bits words = bits ∷ words
 behind false bits words = words
@@ -145,8 +145,8 @@ words_in_front at (constant.MethodHandle a b) words = refl
 words_in_front at (constant.MethodType descriptor) words = refl
 words_in_front at (constant.InvokeDynamic a b) words = refl
 
--- the words of a usable slot begin at its place, and its run begins behind those of the slots
--- before it
+-- the words of a usable slot begin at its place, and its run begins after those of the slots before
+-- it
 pub slot_words : (second : Bool) (bits at : ℕ) (slots : List Slot) (tail : List ℕ) (i : ℕ)
     (c : ClassConstant) → SlotsFit second slots → slice_get slots i ≡ Some (Usable c)
     → (rest : List ℕ)
@@ -256,7 +256,7 @@ runs_up_to (s ∷ slots) (suc i) =
 
 -- ---- the constants of a class
 
--- word 8 is 0, so the word at index 1 is no second one
+-- word 8 is 0, so the word at index 1 is no second word
 pub first_is_no_second : (c : ClassFile) (words : List ℕ) → IsRecordOf c words
     → is_second_word words 9 ≡ false
 first_is_no_second c words is = ap

@@ -11,7 +11,7 @@ use Rattle.cm_class.specs.Spelling.{HasSpelling, MemberFits}
 use Rattle.cm_record_layout.specs.Packing.{four_numbers, first_of, second_of, third_of, fourth_of}
 use Rattle.cm_record_layout.specs.Layout.{lay, directory, members, members_at, attributes_at}
 use Rattle.cm_record_layout.specs.Layout.{runs_at, IsRecordOf}
-use Rattle.cm_record.specs.Members.{leads_to, has_both, IsFirst, IsLeastMember}
+use Rattle.cm_record.specs.Members.{leads_to, has_both, IsFirstIndex, IsLeastMember}
 use Rattle.cm_record_layout.proofs.{first-four_numbers, second-four_numbers, third-four_numbers}
 use Rattle.cm_record_layout.proofs.{fourth-four_numbers, all_members_len, members_len}
 use Rattle.cm_record_layout.proofs.{directory_len, lay_len, main_there}
@@ -126,7 +126,7 @@ module _ (c : ClassFile) (spelled : HasSpelling c) where
 
 -- ---- what is found among the words of members
 
--- the test of the words, and that of the members
+-- the test on the words, and the test on the members
 abbrev pub word_test : ClassFile → List ℕ → List ℕ → List ℕ → ℕ → ℕ → Bool
 word_test c name descriptor words at k =
     leads_to c name descriptor (second_of (get_or words (at + 2 * k) 0))
@@ -151,7 +151,7 @@ module _ (c : ClassFile) (words : List ℕ) (at count : ℕ) (all : List ClassMe
       sym (same_test k other e) ∙ none k (omega (arith, index_there all k other e, size))
 
   pub least_found : (is_method : Bool) (index : ℕ)
-      → IsFirst (word_test c name descriptor words at) count index
+      → IsFirstIndex (word_test c name descriptor words at) count index
       → IsLeastMember c all is_method name descriptor
       (record {
         is_method = is_method;

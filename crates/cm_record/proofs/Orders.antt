@@ -22,7 +22,7 @@ heads xs ys i hx hy = λ j. order (drop-cons xs i 0 hx j) (drop-cons ys i 0 hy j
 equal_numbers : (x y : ℕ) → x ≡ y → nat_cmp x y ≡ Equal
 equal_numbers x y e = sym (nat_cmp_is x y Equal e)
 
--- bytes that are the same decide nothing
+-- equal bytes don't decide the order
 pub same_byte : (xs ys : List ℕ) (i n : ℕ) → n ≡ i + 1 → i < length xs → i < length ys
     → get_or xs i 0 ≡ get_or ys i 0 → order xs ys ≡ order (drop i xs) (drop i ys)
     → order xs ys ≡ order (drop n xs) (drop n ys)
@@ -33,7 +33,7 @@ same_byte xs ys i n en hx hy e so_far =
     (equal_numbers (get_or xs i 0) (get_or ys i 0) e)
     ∙ ap (λ k. order (drop k xs) (drop k ys)) more))
 
--- nor do the first ones where all are the same
+-- nor do the first n bytes, if all of them are equal
 pub same_bytes : (n : ℕ) (xs ys : List ℕ) → n ≤ length xs → n ≤ length ys
     → ((i : ℕ) → i < n → get_or xs i 0 ≡ get_or ys i 0)
     → order xs ys ≡ order (drop n xs) (drop n ys)
@@ -57,7 +57,7 @@ decided x y o ne = elim (below x y ne) [
       (λ c. ordering_then c o) more ∙ sym more
 ]
 
--- the first that differ decide
+-- the first bytes that differ decide
 pub other_byte : (xs ys : List ℕ) (i : ℕ) → i < length xs → i < length ys
     → (get_or xs i 0 ≡ get_or ys i 0 → ⊥) → order xs ys ≡ order (drop i xs) (drop i ys)
     → nat_cmp (get_or xs i 0) (get_or ys i 0) ≡ order xs ys
@@ -79,7 +79,7 @@ at_end (u ∷ us) [] i lx ly ex ey h = nat_cmp_is lx ly Greater (omega arith)
 at_end (u ∷ us) (v ∷ vs) i lx ly ex ey h =
     elim h [ inl e ↦ absurd (omega arith) | inr e ↦ absurd (omega arith) ]
 
--- and where one ends, the lengths do
+-- if one list ends first, the lengths decide
 pub one_ends : (xs ys : List ℕ) (i : ℕ) → i ≡ min (length xs) (length ys)
     → order xs ys ≡ order (drop i xs) (drop i ys) → nat_cmp (length xs) (length ys) ≡ order xs ys
 one_ends xs ys i ei so_far =

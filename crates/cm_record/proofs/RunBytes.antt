@@ -31,7 +31,7 @@ drop_fits : (n : ℕ) (bytes : List ℕ) → AreBytes bytes → AreBytes (drop n
 drop_fits n bytes are = bytes_from (drop n bytes)
     (λ i lt. omega (arith, get_or-drop n bytes i 0, AreBytes-at bytes are (n + i)))
 
--- a run ends where its words do
+-- a run ends where its words end
 pub run_fits : (words : List ℕ) (run : Run) (bytes : List ℕ) → IsRunOf words run bytes
     → 8 * run.at + run.len ≤ 8 * length words
 run_fits words run bytes is =
@@ -57,7 +57,7 @@ byte_there words run bytes is i lt =
     (omega (arith, length-drop (8 * k) bytes, is.count, whole))
     ∙ (get_or-drop (8 * k) bytes j 0 ∙ ap (λ n. get_or bytes n 0) whole))
 
--- where the first words of two runs are the same, their bytes are
+-- if the first words of two runs are the same, so are their bytes
 pub same_in_runs : (words others : List ℕ) (run other : Run) (xs ys : List ℕ)
     → IsRunOf words run xs → IsRunOf others other ys
     → (n : ℕ) → 8 * n ≤ run.len → 8 * n ≤ other.len
@@ -71,7 +71,7 @@ same_in_runs words others run other xs ys of_xs of_ys n le also same i lt =
     ∙ (ap (λ w. get_or (bytes_of w) (i % 8) 0) word
     ∙ byte_there others other ys of_ys i (omega arith))
 
--- where the first words of a run are made of these bytes, its bytes are these
+-- if the first words of a run are made from these bytes, its bytes are these
 pub same_in_run : (words : List ℕ) (run : Run) (xs ys : List ℕ) → IsRunOf words run xs → AreBytes ys
     → (n : ℕ) → 8 * n ≤ run.len → 8 * n ≤ length ys
     → ((k : ℕ) → k < n → get_or (drop run.at words) k 0 ≡ word_from (drop (8 * k) ys))

@@ -1,4 +1,4 @@
--- The runs of a class's Utf8, found in the words of its record.
+-- The runs of a class's Utf8s, found in the words of its record.
 -- For `Record::super_name`, `class_name_run`, `cmp_run_to` and others.
 use Rattle.std.proofs.Common.{false, ◌≡◌, ◌≤◌, ◌-◌, ◌*◌, ◌/◌, ℕ, zero, suc, List, [], ◌∷◌, ◌++◌}
 use Rattle.std.proofs.Common.{length, take, drop, get_or, slice_get, Option, Some, None, refl, sym}
@@ -45,7 +45,7 @@ named_usable None d e = absurd (cc)
 named_usable (Some Unusable) d e = absurd (cc)
 named_usable (Some (Usable x)) d e = let same : x ≡ d = cc in ap (λ y. Some (Usable y)) same
 
--- no bytes have a run wherever one looks
+-- no bytes have a run at every place
 empty_run : (words : List ℕ) → IsRunOf words no_bytes []
 empty_run words =
     record { fits = tt; count = refl; within = omega arith; rest = words; split = refl }
@@ -146,16 +146,16 @@ module _ (c : ClassFile) (spelled : HasSpelling c) (short : length (lay c) ≤ l
       subst (λ (n : ℕ). IsRunOf (lay c) (utf8_run (lay c) n) (class_name c index)) (sym link)
       (utf8_run_is (option_map_or class_name_index (constant_named c index) 0))
 
--- ---- what a run tells
+-- ---- what a run determines
 
--- the bytes are read from it
+-- the bytes are read from the run
 pub run_read : (words : List ℕ) (run : Run) (bytes : List ℕ) (is : IsRunOf words run bytes)
     → run_at run.len (drop run.at words) ≡ Some (bytes, is.rest)
 run_read words run bytes is = ap
     (λ n. run_at n (drop run.at words)) is.count
     ∙ (ap (run_at (length bytes)) is.split ∙ run_again bytes is.rest is.fits)
 
--- so it has one list of bytes
+-- a run has one list of bytes
 pub one_run : (words : List ℕ) (run : Run) (xs ys : List ℕ) → IsRunOf words run xs
     → IsRunOf words run ys → xs ≡ ys
 one_run words run xs ys of_xs of_ys =
@@ -163,7 +163,7 @@ one_run words run xs ys of_xs of_ys =
     sym (run_read words run xs of_xs) ∙ run_read words run ys of_ys in
     ap (λ (p : List ℕ × List ℕ). p.0) (some_same (xs, of_xs.rest) (ys, of_ys.rest) both)
 
--- as many bytes in the same words are the same
+-- equally many bytes in the same words are the same
 pub packed_same : (xs ys : List ℕ) → AreBytes xs → AreBytes ys → length xs ≡ length ys
     → packed xs ≡ packed ys → xs ≡ ys
 packed_same xs ys of_xs of_ys count same =

@@ -1,4 +1,4 @@
--- Runs compared with bytes, and Utf8 with names.
+-- Runs compared with bytes, and Utf8s with names.
 -- For `Marks::of`, `is_run`, `is_utf8`.
 use Rattle.std.proofs.Common.{◌≡◌, ◌<◌, ◌≤◌, ◌-◌, ℕ, Bool, true, false, List, [], ◌∷◌}
 use Rattle.std.proofs.Common.{length, take, drop, get_or, min, Option, Some, None, refl, sym, ◌∙◌}
@@ -52,7 +52,7 @@ module _ (words bytes rest left : List ℕ) (onward : words ≡ packed bytes
         sym (take_rest rest 1) ∙ (e ∙ ap packed shorter) in
         back (head_rest rest long ∙ ((λ i. (sym same ∙ is) i ∷ behind i) ∙ sym first))
 
--- ---- which constants are Utf8
+-- ---- which constants are Utf8s
 
 kind_kept : (at : ℕ) (o : Option ClassConstant)
     → option_map_or (is_kind kinds.Utf8) o false

@@ -89,7 +89,7 @@ of_index words index run e = by_zero (index == 0) e
     by_zero true e = absurd (cc)
     by_zero false e = by_count (nat_le (first_of (get_or words 2 0)) index) refl e
 
--- An index whose word isn't that of a Utf8 of as many bytes leads to none of these bytes.
+-- An index whose word isn't that of a Utf8 of as many bytes leads to no Utf8 of these bytes.
 pub leads_to_none : (c : ClassFile) (words : List ℕ) → IsRecordOf c words
     → (index : ℕ) (bytes : List ℕ)
     → ¬ IsUtf8Index words index (length bytes) → names_utf8 c index bytes ≡ false

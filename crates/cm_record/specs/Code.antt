@@ -1,4 +1,4 @@
--- Where the code of a method lies in its record (JVMS 4.7.3).
+-- Where the code of a method is in its record (JVMS 4.7.3).
 use Rattle.std.specs.Prelude.{◌≡◌, ℕ, ◌+◌, ◌*◌, ◌^◌, ◌<◌, true, false, List, [], ◌∷◌, ◌++◌, length}
 use Rattle.std.specs.Prelude.{take, get_or, slice_get, Option, Some, None, nat_lt, if◌then◌else◌}
 use Rattle.cm_class.specs.declared.class_file.Attribute.{Attribute}
@@ -10,7 +10,7 @@ use Rattle.cm_record.specs.declared.code.Code.{Code}
 use Rattle.cm_record_layout.specs.Layout.{member_attributes, attribute_runs, attributes_at}
 use Rattle.cm_record_layout.specs.Layout.{attribute_runs_at}
 
--- `Code`
+-- the bytes of `Code`
 abbrev pub code_name : List ℕ
 code_name = 67 ∷ 111 ∷ 100 ∷ 101 ∷ []
 
@@ -22,7 +22,7 @@ abbrev pub u4_at : List ℕ → ℕ → ℕ
 u4_at bytes i = 2 ^ 16 * u2_at bytes i + u2_at bytes (i + 2)
 
 -- Max stack, max locals, the length of the code and the code, the number of handlers and eight
--- bytes each; none where the bytes end before. They begin at the byte `at` of the record.
+-- bytes each; none if the bytes end before. They begin at byte `at` of the record.
 abbrev pub code_in : ℕ → List ℕ → Option Code
 code_in at bytes =
     if nat_lt (length bytes) 8 then None
@@ -38,7 +38,7 @@ code_in at bytes =
       handlers = u2_at bytes (8 + u4_at bytes 4);
     })
 
--- the attributes that stand before attribute j of method i, which is `own`
+-- the attributes before attribute j of method i, which is `own`
 abbrev pub attributes_before : ClassFile → ℕ → ClassMember → ℕ → List Attribute
 attributes_before c i own j =
     member_attributes c.fields ++ member_attributes (take i c.methods) ++ take j own.attributes
@@ -49,7 +49,7 @@ attributes_place c i =
     attributes_at c + 2 * length
     (member_attributes c.fields ++ member_attributes (take i c.methods))
 
--- the word at which the run of that attribute begins
+-- the word at which the run of attribute j begins
 abbrev pub run_place : ClassFile → ℕ → ClassMember → ℕ → ℕ
 run_place c i own j = attribute_runs_at c + length (attribute_runs (attributes_before c i own j))
 

@@ -1,4 +1,4 @@
--- The constants of a pool, as a record keeps them.
+-- The constants of a pool, as a record holds them.
 use Rattle.std.specs.Prelude.{ℕ, zero, suc, ◌+◌, ◌-◌, ◌*◌, ◌/◌, ◌%◌, ◌^◌, Bool, false, not, ◌&&◌}
 use Rattle.std.specs.Prelude.{◌||◌, List, length, take, get_or, Option, None, option_map}
 use Rattle.std.specs.Prelude.{nat_le, ◌==◌, if◌then◌else◌}
@@ -14,11 +14,11 @@ use Rattle.cm_record.specs.declared.constant.Utf8Place.{Utf8Place}
 use Rattle.cm_record_layout.specs.Layout.{utf8_runs, runs_at}
 use Rattle.cm_record_layout.specs.Packing.{first_of, second_of, third_of, fourth_of, upper_of}
 
--- a constant of a record, whose Utf8 has the place of its bytes
+-- a constant of a record, in which a Utf8 has the place of its bytes
 abbrev pub RecordConstant : Type 0
 RecordConstant = Constant Utf8Place
 
--- a constant, whose run begins at the word `at`: a Utf8 by where its bytes lie, any other by its
+-- a constant whose run begins at the word `at`: a Utf8 as the place of its bytes, any other by its
 -- numbers
 abbrev pub kept_constant : ℕ → ClassConstant → RecordConstant
 kept_constant at (constant.Utf8 bytes) = constant.Utf8 (record { at = 8 * at; len = length bytes })
@@ -42,24 +42,24 @@ kept_constant at (constant.InvokeDynamic bootstrap_method name_and_type) =
 abbrev pub utf8_at : ClassFile → ℕ → ℕ
 utf8_at c index = runs_at c + length (utf8_runs (take (index - 1) c.slots))
 
--- the constant at an index of the class's pool, as its record keeps it; none at 0, at the second
--- index of a Long or a Double, and behind the pool
+-- the constant at an index of the class's pool, as its record holds it; none at 0, at the second
+-- index of a Long or a Double, and past the end of the pool
 abbrev pub constant_kept : ClassFile → ℕ → Option RecordConstant
 constant_kept c index = option_map (kept_constant (utf8_at c index)) (constant_named c index)
 
--- ---- the same from the words
+-- ---- the same, from the words
 
 -- the directory word of a Long or a Double
 abbrev pub is_wide_word : ℕ → Bool
 is_wide_word word = (word == 5) || (word == 6)
 
--- Word k is the second of a Long or a Double, where word 0 isn't: the word before it is that of
--- one, and isn't the second of another.
+-- Word k is the second of a Long or a Double, given that word 0 isn't: the word before it is one of
+-- a Long or a Double, and isn't itself the second of another.
 abbrev pub is_second_word : List ℕ → ℕ → Bool
 is_second_word words zero = false
 is_second_word words (suc k) = is_wide_word (get_or words k 0) && not (is_second_word words k)
 
--- what a directory word of this kind stands for, with the word behind it
+-- what a directory word of this kind denotes, with the word after it
 abbrev pub kept_of_kind : Kind → ℕ → ℕ → RecordConstant
 kept_of_kind kinds.Utf8 word next =
     constant.Utf8 (record { at = upper_of word * 8 % 2 ^ 32; len = second_of word })
@@ -79,7 +79,7 @@ kept_of_kind kinds.MethodHandle word next =
 kept_of_kind kinds.MethodType word next = constant.MethodType (third_of word)
 kept_of_kind kinds.InvokeDynamic word next = constant.InvokeDynamic (third_of word) (fourth_of word)
 
--- a constant, by its directory word and the one behind it
+-- a constant, from its directory word and the next one
 unfoldable pub word_kept : ℕ → ℕ → Option RecordConstant
 word_kept word next = option_map (λ kind. kept_of_kind kind word next) (tag_of (first_of word))
 

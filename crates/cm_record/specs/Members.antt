@@ -7,7 +7,7 @@ use Rattle.cm_class.specs.Names.{names_utf8}
 use Rattle.cm_record_layout.specs.Layout.{IsRecordOf}
 use Rattle.cm_record.specs.declared.member.Member.{Member}
 
--- the indexes lead to Utf8 of these bytes
+-- the indexes lead to Utf8s of these bytes
 abbrev pub leads_to : ClassFile → List ℕ → List ℕ → ℕ → ℕ → Bool
 leads_to c name descriptor name_index descriptor_index =
     names_utf8 c name_index name && names_utf8 c descriptor_index descriptor
@@ -22,12 +22,12 @@ abbrev pub has_both : ClassFile → List ℕ → List ℕ → ClassMember → Bo
 has_both c name descriptor m = leads_to c name descriptor m.name m.descriptor
 
 -- the test holds at the index, and at none before it
-pub record IsFirst (test : ℕ → Bool) (count index : ℕ) : Type 0 where
+pub record IsFirstIndex (test : ℕ → Bool) (count index : ℕ) : Type 0 where
   pub there : index < count
   pub passes : test index ≡ true
   pub first : (k : ℕ) → k < index → test k ≡ false
 
--- the least of these members that has the name and the descriptor
+-- the first of these members that has the name and the descriptor
 pub record IsLeastMember (c : ClassFile) (all : List ClassMember) (is_method : Bool)
     (name descriptor : List ℕ) (m : Member) : Type 0 where
   pub kind : m.is_method ≡ is_method
@@ -39,7 +39,7 @@ pub record IsLeastMember (c : ClassFile) (all : List ClassMember) (is_method : B
   pub flags : m.flags ≡ own.flags
   pub attributes : m.attributes ≡ length own.attributes
 
--- what is found among these members: none only where no one has the name and the descriptor
+-- what is found among these members: none only if no member has the name and the descriptor
 abbrev pub FindsMember : ClassFile → List ClassMember → Bool → List ℕ → List ℕ → Option Member
     → Type 0
 FindsMember c all is_method name descriptor None = (k : ℕ) (other : ClassMember)

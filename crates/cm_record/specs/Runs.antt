@@ -1,4 +1,4 @@
--- Where the bytes of a Utf8 lie among the words of a record.
+-- Where the bytes of a Utf8 are in the words of a record.
 use Rattle.std.specs.Prelude.{◌≡◌, ◌≤◌, ℕ, ◌+◌, ◌/◌, List, ◌++◌, length, drop, get_or, Option}
 use Rattle.std.specs.Prelude.{Some, None, unwrap_or}
 use Rattle.cm_class.specs.declared.constant.Constant.TheVariants as constant
@@ -18,7 +18,7 @@ pub record IsRunOf (words : List ℕ) (run : Run) (bytes : List ℕ) : Type 0 wh
 abbrev pub HasRun : List ℕ → Run → Type 0
 HasRun words run = (bytes : List ℕ) × IsRunOf words run bytes
 
--- the run of a Utf8; none of anything else
+-- the run of a Utf8; none for anything else
 abbrev pub run_of_utf8 : Option RecordConstant → Option Run
 run_of_utf8 (Some (constant.Utf8 place)) = Some (record { at = place.at / 8; len = place.len })
 run_of_utf8 _ = None
@@ -27,7 +27,7 @@ run_of_utf8 _ = None
 abbrev pub no_bytes : Run
 no_bytes = record { at = 0; len = 0 }
 
--- the run of the Utf8 at an index; that of no bytes where it is no Utf8
+-- the run of the Utf8 at an index; the run of no bytes if there is no Utf8
 abbrev pub utf8_run : List ℕ → ℕ → Run
 utf8_run words index = unwrap_or (run_of_utf8 (constant_at_index words index)) no_bytes
 

@@ -1,4 +1,4 @@
-//! The code of a method, found among the words of a record.
+//! The code of a method, found in the words of a record.
 ghost use Rattle.std.specs.Prelude.{◌≡◌, ◌≤◌, ◌<◌, ◌+◌, ◌*◌, ◌/◌, ◌%◌, ◌^◌, ℕ, List, Some};
 ghost use Rattle.std.specs.Prelude.{slice_get, false, length, get_or, IsNone, IfSome};
 ghost use Rattle.cm_class.specs.declared.class_file.ClassFile.{ClassFile};
@@ -7,7 +7,7 @@ ghost use Rattle.cm_class.specs.Names.{names_utf8};
 ghost use Rattle.cm_record_layout.specs.Packing.{bytes_of as word_bytes_of, first_of, third_of};
 ghost use Rattle.cm_record_layout.specs.Layout.{IsRecord, IsRecordOf, limit};
 ghost use Rattle.cm_record.specs.Runs.{IsRunOf, HasRun, attribute_run_at};
-ghost use Rattle.cm_record.specs.Members.{IsFirst};
+ghost use Rattle.cm_record.specs.Members.{IsFirstIndex};
 ghost use Rattle.cm_record.specs.Code.{code_name, code_in, u2_at, u4_at, attributes_place};
 
 use crate::marks::Marks;
@@ -15,8 +15,8 @@ use crate::run::Run;
 use crate::utf8::is_utf8_of;
 use cm_record_layout::{HEAD_COUNTS, HEAD_MEMBERS_AT, bytes_of, first, fourth, second, upper};
 
-/// Where the code of a method lies (JVMS 4.7.3). Places count bytes from the record's first one; a
-/// byte is the number of eight bits there in its word, the lowest first.
+/// Where the code of a method is (JVMS 4.7.3). Places count bytes from the record's first byte; a
+/// byte is eight bits of its word, the lowest first.
 #[derive(Clone, Copy, Debug, PartialEq, Eq)]
 pub struct Code {
     pub max_stack: u16,
@@ -28,7 +28,7 @@ pub struct Code {
     pub handlers: u16,
 }
 
-/// The name of the attribute.
+/// The name of the code attribute.
 const CODE: [u8; 4] = *b"Code";
 
 /// A byte of the run that begins at a word.
@@ -60,7 +60,7 @@ fn u4(words: &[u64], run: Run, i: usize) -> u32
     65_536 * u32::from(u2(words, run, i)) + u32::from(u2(words, run, i + 2))
 }
 
-/// The code in a run; none where the run ends before its lengths, its code or its handlers do.
+/// The code in a run; `None` if the run ends before its lengths, its code or its handlers do.
 pub(crate) fn code_in_run(words: &[u64], run: Run) -> Option<Code>
     requires run { HasRun words.now run }
     requires short { length words.now ≤ limit }
@@ -89,15 +89,15 @@ pub(crate) fn code_in_run(words: &[u64], run: Run) -> Option<Code>
     })
 }
 
-/// As [`find_code`], with one pass over the pool, whatever the attributes' indexes are; a function
-/// of its own at run time too, as [`crate::member`] has it.
+/// Like [`find_code`], with one pass over the pool, whatever the attributes' indexes are. It stays
+/// a function of its own at run time, for the reason given at [`crate::member`].
 #[inline(never)]
 fn find_code_by_marks(words: &[u64], at: usize, count: usize) -> Option<usize>
     requires record { IsRecord words.now }
     requires within { at + 2 * count ≤ length words.now }
     ensures none { (c : ClassFile) → IsRecordOf c words.now → IsNone result → (k : ℕ) → k < count
         → names_utf8 c (first_of (get_or words.now (at + 2 * k) 0)) code_name ≡ false }
-    ensures some { (c : ClassFile) → IsRecordOf c words.now → IfSome result (IsFirst
+    ensures some { (c : ClassFile) → IsRecordOf c words.now → IfSome result (IsFirstIndex
         (λ k. names_utf8 c (first_of (get_or words.now (at + 2 * k) 0)) code_name) count) }
 {
     let names = Marks::of(words, &CODE);
@@ -109,14 +109,14 @@ fn find_code_by_marks(words: &[u64], at: usize, count: usize) -> Option<usize>
     None
 }
 
-/// Which of so many attributes, whose words begin at `at`, is the first Code. Once it has looked at
-/// as many words as the record has, it finds it by marks.
+/// Which of `count` attributes, whose words begin at `at`, is the first Code. Once it has read as
+/// many words as the record has, it searches by marks.
 pub(crate) fn find_code(words: &[u64], at: usize, count: usize) -> Option<usize>
     requires record { IsRecord words.now }
     requires within { at + 2 * count ≤ length words.now }
     ensures none { (c : ClassFile) → IsRecordOf c words.now → IsNone result → (k : ℕ) → k < count
         → names_utf8 c (first_of (get_or words.now (at + 2 * k) 0)) code_name ≡ false }
-    ensures some { (c : ClassFile) → IsRecordOf c words.now → IfSome result (IsFirst
+    ensures some { (c : ClassFile) → IsRecordOf c words.now → IfSome result (IsFirstIndex
         (λ k. names_utf8 c (first_of (get_or words.now (at + 2 * k) 0)) code_name) count) }
 {
     let mut left = words.len();
@@ -132,10 +132,10 @@ pub(crate) fn find_code(words: &[u64], at: usize, count: usize) -> Option<usize>
     None
 }
 
-/// Where the attributes of a method lie.
+/// Where the attributes of a method are.
 #[derive(Clone, Copy)]
 pub(crate) struct Attributes {
-    /// The word at which theirs begin, two each.
+    /// The word at which the attributes' words begin, two each.
     pub(crate) at: usize,
     /// How many there are.
     pub(crate) count: usize,

@@ -1,4 +1,4 @@
-//! The constants of a record, one look at the directory each.
+//! The constants of a record, each from one word of the directory.
 ghost use Rattle.std.specs.Prelude.{◌≡◌, ◌≤◌, ◌+◌, ◌%◌, ◌==◌, ◌&&◌, not, length, get_or};
 ghost use Rattle.cm_record_layout.specs.Packing.{first_of};
 ghost use Rattle.cm_record.specs.Constants.{is_wide_word as is_wide_word_of};
@@ -10,16 +10,16 @@ ghost use Rattle.cm_record.specs.Constants.{constant_at_index as constant_at_ind
 use cm_class::{Constant, Kind};
 use cm_record_layout::{DIRECTORY_AT, HEAD_COUNTS, THIRD, first, fourth, second, third, upper};
 
-/// Where the bytes of a Utf8 lie in a record.
+/// Where the bytes of a Utf8 are in a record.
 #[derive(Clone, Copy, Debug, PartialEq, Eq)]
 pub struct Utf8Place {
-    /// Where they begin, counted in bytes from the record's first.
+    /// Where they begin, counted in bytes from the record's first byte.
     pub at: u32,
     /// How many there are.
     pub len: u16,
 }
 
-/// What a directory word of this kind stands for, with the word behind it.
+/// What a directory word of this kind denotes, with the word after it.
 fn constant_of_kind(kind: Kind, word: u64, next: u64) -> Constant<Utf8Place>
     ensures { result ≡ kept_of_kind_of kind word next }
 {
@@ -64,7 +64,7 @@ fn constant_of_kind(kind: Kind, word: u64, next: u64) -> Constant<Utf8Place>
     }
 }
 
-/// A constant, by its directory word and the one behind it.
+/// A constant, from its directory word and the next one.
 #[tactic(auto, unfolding(crate::specs::Constants::word_kept))]
 fn word_kept(word: u64, next: u64) -> Option<Constant<Utf8Place>>
     ensures { result ≡ word_kept_of word next }
@@ -80,9 +80,9 @@ fn is_wide_word(word: u64) -> bool
     word == u64::from(Kind::Long.tag()) || word == u64::from(Kind::Double.tag())
 }
 
-/// How many words stand before a place of the directory that could all be those of Longs and
-/// Doubles, with none of another kind between. In most classes there is none. The word at the place
-/// is the second of a Long or a Double where they are odd.
+/// How many words before a place of the directory could all be words of Longs and Doubles, with no
+/// other word between. In most classes there are none. If the number is odd, the word at the place
+/// is the second of a Long or a Double.
 pub(crate) fn wide_words_before(words: &[u64], place: usize) -> usize
     requires { place ≤ length words.now }
     ensures within { result ≤ place }
@@ -95,15 +95,15 @@ pub(crate) fn wide_words_before(words: &[u64], place: usize) -> usize
     place - before
 }
 
-/// Whether the word behind one of the directory is the second of a Long or a Double.
+/// Whether the next word of the directory is the second of a Long or a Double.
 pub(crate) fn is_next_second(word: u64, is_second: bool) -> bool
     ensures { result ≡ (is_wide_word_of word && not is_second) }
 {
     is_wide_word(word) && !is_second
 }
 
-/// The constant at an index of the pool, where it is known whether its word is the second of a Long
-/// or a Double.
+/// The constant at an index of the pool, if it is known whether its word is the second of a Long or
+/// a Double.
 pub(crate) fn constant_at(words: &[u64], index: u16, is_second: bool) -> Option<Constant<Utf8Place>>
     requires within { 8 + first_of (get_or words.now 2 0) ≤ length words.now }
     requires second { is_second ≡ is_second_word_of words.now (8 + index) }

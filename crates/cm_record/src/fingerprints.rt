@@ -1,4 +1,4 @@
-//! Numbers that tell names apart at a glance.
+//! Numbers that distinguish names at a glance.
 ghost use Rattle.std.specs.Prelude.{◌≡◌, ℕ, List};
 ghost use Rattle.cm_record_layout.specs.Packing.{packed};
 ghost use Rattle.cm_record.specs.Fingerprints.{further, folded, upper_half};
@@ -9,13 +9,13 @@ use crate::run::{Run, run_slice};
 use crate::utf8::skip_eight;
 use cm_record_layout::word_of;
 
-/// An odd number with its bits mixed, so that each word has a part in all that is above it.
+/// An odd number with well-mixed bits, so that each word affects all bits above it.
 const STEP: u64 = 11_400_714_819_323_198_485;
 
-/// Another one.
+/// Another such number.
 const SPREAD: u64 = 14_029_467_366_897_019_727;
 
-/// One word more.
+/// Folds in one more word.
 #[tactic(auto, unfolding(crate::specs::Fingerprints::further))]
 fn fold_word(number: u64, word: u64) -> u64
     ensures { result ≡ further number word }
@@ -23,7 +23,7 @@ fn fold_word(number: u64, word: u64) -> u64
     number.wrapping_mul(STEP).wrapping_add(word)
 }
 
-/// The upper half, once each bit had a part in it.
+/// The upper half, after each bit has affected it.
 #[tactic(auto, unfolding(crate::specs::Fingerprints::upper_half))]
 fn upper_half(number: u64) -> u32
     ensures { result ≡ upper_half number }
@@ -31,7 +31,7 @@ fn upper_half(number: u64) -> u32
     (number.wrapping_mul(SPREAD) >> 32) as u32
 }
 
-/// These words more.
+/// Folds in these words.
 fn fold_words(from: u64, words: &[u64]) -> u64
     ensures { result ≡ folded from words.now }
 {
@@ -42,7 +42,7 @@ fn fold_words(from: u64, words: &[u64]) -> u64
     number
 }
 
-/// The words of these bytes more.
+/// Folds in the words of these bytes.
 fn fold_bytes(from: u64, bytes: &[u8]) -> u64
     ensures { result ≡ folded from (packed bytes.now) }
 {
@@ -54,8 +54,8 @@ fn fold_bytes(from: u64, bytes: &[u8]) -> u64
     number
 }
 
-/// A number of 32 bits that depends on the seed and on the bytes alone. Whoever picks both can make
-/// any of them meet, so names with the same number have to be compared.
+/// A number of 32 bits that depends on the seed and on the bytes alone. Whoever chooses both can
+/// produce collisions, so names with the same number have to be compared.
 #[tactic(auto, unfolding(crate::specs::Fingerprints::fingerprint))]
 pub fn fingerprint(seed: u64, bytes: &[u8]) -> u32
     ensures { result ≡ fingerprint_of seed bytes.now }
@@ -63,7 +63,7 @@ pub fn fingerprint(seed: u64, bytes: &[u8]) -> u32
     upper_half(fold_bytes(fold_word(seed, bytes.len() as u64), bytes))
 }
 
-/// The same of the bytes of a run.
+/// The fingerprint of the bytes of a run.
 pub(crate) fn run_fingerprint(seed: u64, words: &[u64], run: Run) -> u32
     requires { HasRun words.now run }
     ensures { (bytes : List ℕ) → IsRunOf words.now run bytes → result ≡ fingerprint_of seed bytes }

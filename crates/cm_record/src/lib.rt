@@ -1,4 +1,4 @@
-//! Classes as records: words that can lie anywhere, as all places count from their first.
+//! Classes as records: words that can be stored anywhere, as all places count from the first word.
 #![tactic(auto)]
 
 mod code;

@@ -10,7 +10,7 @@ use cm_record_layout::{DIRECTORY_AT, HEAD_COUNTS, first};
 /// How many indexes a pool may have.
 const INDEXES: usize = 65_536;
 
-/// For each index, whether a Utf8 of some bytes stands there.
+/// For each index, whether it has a Utf8 of some bytes.
 #[derive(Drop)]
 pub(crate) struct Marks {
     leads: [bool; INDEXES],
@@ -31,7 +31,7 @@ impl Marks {
         Marks { leads }
     }
 
-    /// Whether a Utf8 of the bytes stands at the index.
+    /// Whether the index has a Utf8 of the bytes.
     pub(crate) fn has(&self, index: u16) -> bool
         ensures { result ≡ get_or self.now.leads index false }
     {

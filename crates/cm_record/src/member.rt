@@ -4,7 +4,7 @@ ghost use Rattle.std.specs.Prelude.{IsNone, IfSome};
 ghost use Rattle.cm_class.specs.declared.class_file.ClassFile.{ClassFile};
 ghost use Rattle.cm_record_layout.specs.Layout.{IsRecord, IsRecordOf};
 ghost use Rattle.cm_record_layout.specs.Packing.{second_of, third_of};
-ghost use Rattle.cm_record.specs.Members.{leads_to, IsFirst};
+ghost use Rattle.cm_record.specs.Members.{leads_to, IsFirstIndex};
 
 use crate::marks::Marks;
 use crate::utf8::is_utf8_of;
@@ -15,7 +15,7 @@ use cm_record_layout::{second, third};
 pub struct Member {
     /// A method, and not a field.
     pub is_method: bool,
-    /// How many fields, or methods, stand before it.
+    /// How many fields, or methods, come before it.
     pub index: u16,
     pub flags: u16,
     /// How many attributes it has.
@@ -42,8 +42,7 @@ fn is_word_of(
     is_utf8_of(words, third(word), descriptor, left)
 }
 
-/// The same where the indexes are marked that lead to the name, and those that lead to the
-/// descriptor.
+/// The same, given which indexes lead to the name and which to the descriptor.
 fn is_word_marked(word: u64, names: &Marks, descriptors: &Marks) -> bool
     ensures { result ≡ (get_or names.now.leads (second_of word) false
         && get_or descriptors.now.leads (third_of word) false) }
@@ -51,9 +50,9 @@ fn is_word_marked(word: u64, names: &Marks, descriptors: &Marks) -> bool
     names.has(second(word)) && descriptors.has(third(word))
 }
 
-/// As [`find_member`], with one pass over the pool for the name and one for the descriptor,
-/// whatever the members' indexes are. A function of its own at run time too: its marks take 128 KiB
-/// of the stack, which the ordinary search needn't touch.
+/// Like [`find_member`], with one pass over the pool for the name and one for the descriptor,
+/// whatever the members' indexes are. It stays a function of its own at run time: its marks take
+/// 128 KiB of the stack, which the ordinary search doesn't need.
 #[inline(never)]
 fn find_member_by_marks(
     words: &[u64],
@@ -67,7 +66,7 @@ fn find_member_by_marks(
     ensures none { (c : ClassFile) → IsRecordOf c words.now → IsNone result → (k : ℕ) → k < count
         → leads_to c name.now descriptor.now (second_of (get_or words.now (at + 2 * k) 0))
         (third_of (get_or words.now (at + 2 * k) 0)) ≡ false }
-    ensures some { (c : ClassFile) → IsRecordOf c words.now → IfSome result (IsFirst
+    ensures some { (c : ClassFile) → IsRecordOf c words.now → IfSome result (IsFirstIndex
         (λ k. leads_to c name.now descriptor.now (second_of (get_or words.now (at + 2 * k) 0))
         (third_of (get_or words.now (at + 2 * k) 0))) count) }
 {
@@ -80,8 +79,8 @@ fn find_member_by_marks(
     None
 }
 
-/// The least of so many members, whose words begin at `at`, that has this name and this descriptor.
-/// Once it has looked at as many words as the record has, it finds it by marks.
+/// The first of `count` members, whose words begin at `at`, that has this name and this descriptor.
+/// Once it has read as many words as the record has, it searches by marks.
 pub(crate) fn find_member(
     words: &[u64],
     at: usize,
@@ -94,7 +93,7 @@ pub(crate) fn find_member(
     ensures none { (c : ClassFile) → IsRecordOf c words.now → IsNone result → (k : ℕ) → k < count
         → leads_to c name.now descriptor.now (second_of (get_or words.now (at + 2 * k) 0))
         (third_of (get_or words.now (at + 2 * k) 0)) ≡ false }
-    ensures some { (c : ClassFile) → IsRecordOf c words.now → IfSome result (IsFirst
+    ensures some { (c : ClassFile) → IsRecordOf c words.now → IfSome result (IsFirstIndex
         (λ k. leads_to c name.now descriptor.now (second_of (get_or words.now (at + 2 * k) 0))
         (third_of (get_or words.now (at + 2 * k) 0))) count) }
 {

@@ -8,7 +8,7 @@ use crate::constant::{Utf8Place, constant_at_index};
 use crate::run::Run;
 use cm_class::Constant;
 
-/// The run of a Utf8; none of anything else.
+/// The run of a Utf8; `None` for anything else.
 pub(crate) fn run_of_utf8(constant: Option<Constant<Utf8Place>>) -> Option<Run>
     ensures { result ≡ run_of_utf8 constant }
 {
@@ -21,7 +21,7 @@ pub(crate) fn run_of_utf8(constant: Option<Constant<Utf8Place>>) -> Option<Run>
     }
 }
 
-/// The run of the Utf8 at an index; that of no bytes where it is no Utf8.
+/// The run of the Utf8 at an index; the run of no bytes if there is no Utf8.
 pub(crate) fn utf8_run(words: &[u64], index: u16) -> Run
     requires { 8 + first_of (get_or words.now 2 0) ≤ length words.now }
     ensures { result ≡ utf8_run_of words.now index }

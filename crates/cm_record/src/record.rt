@@ -39,8 +39,8 @@ use std::marker::Model;
 #[derive(Debug, Drop)]
 pub struct Record {
     words: WordBuf,
-    /// Where the bytes of its class's name lie. A name is looked at far more often than anything
-    /// else of a record, so it is found once.
+    /// Where the bytes of its class's name are. A name is read far more often than anything else of
+    /// a record, so it is located once.
     name: Run,
 }
 
@@ -65,7 +65,7 @@ fn record_of(words: WordBuf) -> Record
     Record { words, name }
 }
 
-/// Where the bytes of the class's name lie in the words of its record.
+/// Where the bytes of the class's name are in the words of its record.
 fn class_name_run(words: &[u64]) -> Run
     requires { IsRecord words.now }
     ensures { IsNameRun words.now result }
@@ -73,7 +73,7 @@ fn class_name_run(words: &[u64]) -> Run
     name_run(words, second(words[HEAD_CLASS]))
 }
 
-/// The class's record. `TooLong` comes exactly where its layout has more than 524,288 words.
+/// The class's record. Returns `TooLong` exactly if its layout has more than 524,288 words.
 pub fn build(alloc: Global, class: &Class) -> Result<Record, RecordRefusal>
     ensures ok { IfOk result (λ r. r ≡ lay class.now) }
     ensures too_long { IsErrOf result RecordRefusal.TooLong ↔ (limit < length (lay class.now)) }
@@ -92,7 +92,7 @@ impl Record {
         self.words.as_slice()
     }
 
-    /// Where the bytes of its class's name lie.
+    /// Where the bytes of its class's name are.
     fn name_run(&self) -> Run
         ensures name { IsNameRun self.now result }
         ensures run { HasRun self.now result }
@@ -100,8 +100,8 @@ impl Record {
         self.name
     }
 
-    /// The record of these words. `NotARecord` comes exactly where no class has them as its record,
-    /// so `NoMemory` is only told of the words of a record.
+    /// The record of these words. Returns `NotARecord` exactly if no class has them as its record,
+    /// so `NoMemory` is returned only for the words of a record.
     pub fn read(alloc: Global, words: &[u64]) -> Result<Record, RecordFault>
         ensures ok { IfOk result (λ r. r ≡ words.now) }
         ensures laid { OnOk result (IsRecord words.now) }
@@ -114,7 +114,7 @@ impl Record {
         Ok(Record::of_words(alloc, words)?)
     }
 
-    /// The record of these words, which are known to be one, so nothing is looked at.
+    /// The record of these words, which are known to be one, so nothing is checked.
     pub fn of_words(alloc: Global, words: &[u64]) -> Result<Record, AllocError>
         requires { IsRecord words.now }
         ensures { IfOk result (λ r. r ≡ words.now) }
@@ -123,19 +123,19 @@ impl Record {
         Ok(record_of(words))
     }
 
-    /// Whether another record has the same words, so is that of the same class.
+    /// Whether another record has the same words, and so belongs to the same class.
     pub fn has_same_words(&self, other: &Record) -> bool
         ensures { IsTrue result ↔ (self.now ≡ other.now) }
     {
         self.as_slice() == other.as_slice()
     }
 
-    /// Does nothing: its clauses say that its words are a record, and how many there may be.
+    /// Does nothing: its clauses say that the words are a record, and how many there may be.
     pub fn invariant_holds(&self)
         ensures laid { IsRecord self.now }
         ensures short { length self.now ≤ limit }
     {
-        let _read = self.words.len(); // the read of a field brings the invariant
+        let _read = self.words.len(); // reading a field provides the invariant
     }
 
     /// How many words it has.
@@ -152,14 +152,14 @@ impl Record {
         requires { length out.old ≡ 8 * length self.now }
         ensures bytes { out.new ≡ word_bytes self.now }
 
-        // The bytes tell the words.
+        // The bytes determine the words.
         ensures words { packed_into (length self.now) out.new ≡ self.now }
     {
         self.words.bytes_into(0, out);
         bytes_tell_words(self.as_slice());
     }
 
-    /// The bytes of its words tell the words again. It does nothing when it runs.
+    /// The bytes of its words determine the words. The function does nothing when it runs.
     pub fn bytes_tell_words(&self)
         ensures { packed_into (length self.now) (word_bytes self.now) ≡ self.now }
     {
@@ -173,15 +173,16 @@ impl Record {
         first(self.as_slice()[1])
     }
 
-    /// The constant at an index of the pool, which counts from 1; none at 0, at the second index of
-    /// a Long or a Double, and behind the pool.
+    /// The constant at an index of the pool, which counts from 1; `None` at 0, at the second index
+    /// of a Long or a Double, and past the end of the pool.
     pub fn constant(&self, index: u16) -> Option<Constant<Utf8Place>>
         ensures { (c : ClassFile) → IsRecordOf c self.now → result ≡ constant_kept c index }
     {
         constant_at_index(self.as_slice(), index)
     }
 
-    /// Its class, which borrows the buffer that it is spelled in, of which nothing is kept.
+    /// Its class, which borrows the buffer that it is spelled in. What the buffer held before is
+    /// lost.
     pub fn to_class<'b>(
         &self,
         alloc: Global,
@@ -196,8 +197,8 @@ impl Record {
         }
     }
 
-    /// The name of its class: the bytes of the Utf8 that this_class leads to; none where it leads
-    /// to no Utf8.
+    /// The name of its class: the bytes of the Utf8 that this_class leads to; empty if it leads to
+    /// no Utf8.
     pub fn class_name(&self, alloc: Global) -> Result<Vec<u8>, AllocError>
         ensures { (c : ClassFile) → IsRecordOf c self.now → IfOk result
             (λ name. name.items ≡ class_name_of c) }
@@ -205,7 +206,8 @@ impl Record {
         run_bytes(alloc, self.as_slice(), self.name_run())
     }
 
-    /// The name of the super class, as that of the class; none where there is no super class.
+    /// The name of the super class, found like that of the class; `None` if there is no super
+    /// class.
     pub fn super_name(&self, alloc: Global) -> Result<Option<Vec<u8>>, AllocError>
         ensures { (c : ClassFile) → IsRecordOf c self.now
             → IfOk result (λ name. option_map (λ bytes. bytes.items) name ≡ super_name_of c) }
@@ -218,7 +220,7 @@ impl Record {
         Ok(Some(run_bytes(alloc, words, name_run(words, index))?))
     }
 
-    /// The least field that has this name and this descriptor. It takes at most 128 KiB of the
+    /// The first field that has this name and this descriptor. It takes at most 128 KiB of the
     /// stack, and some passes over the words.
     pub fn field(&self, name: &[u8], descriptor: &[u8]) -> Option<Member>
         ensures { (c : ClassFile) → IsRecordOf c self.now
@@ -241,7 +243,8 @@ impl Record {
         })
     }
 
-    /// The least method that has this name and this descriptor, as [`Record::field`] finds fields.
+    /// The first method that has this name and this descriptor, found as [`Record::field`] finds
+    /// fields.
     pub fn method(&self, name: &[u8], descriptor: &[u8]) -> Option<Member>
         ensures { (c : ClassFile) → IsRecordOf c self.now
             → FindsMember c c.methods true name.now descriptor.now result }
@@ -264,9 +267,9 @@ impl Record {
         })
     }
 
-    /// Where the code of a method lies; none of a field, where there is no such method, where it
-    /// has no attribute Code, and where the first one ends before its lengths, its code or its
-    /// handlers do. It reads the method with that index.
+    /// Where the code of a method is. `None` for a field, if there is no such method, if it has no
+    /// attribute Code, and if the first one ends before its lengths, its code or its handlers do.
+    /// It reads the method with that index.
     pub fn code(&self, member: &Member) -> Option<Code>
         ensures code { (c : ClassFile) (own : ClassMember) (j : ℕ) (a : Attribute)
             → IsRecordOf c self.now
@@ -306,7 +309,7 @@ impl Record {
         cmp_run_to(self.as_slice(), self.name_run(), name)
     }
 
-    /// The fingerprint of its class's name, as [`fingerprint`] makes it of the name's bytes.
+    /// The fingerprint of its class's name, as [`fingerprint`] computes it from the name's bytes.
     ///
     /// [`fingerprint`]: crate::fingerprint
     pub fn name_fingerprint(&self, seed: u64) -> u32

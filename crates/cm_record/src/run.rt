@@ -1,4 +1,4 @@
-//! Bytes that lie among the words of a record, eight to a word.
+//! Bytes in the words of a record, eight per word.
 ghost use Rattle.std.specs.Prelude.{◌≡◌, ◌↔◌, ℕ, List, IfOk, IsTrue};
 ghost use Rattle.cm_record_layout.specs.Packing.{packed};
 ghost use Rattle.cm_record.specs.Runs.{IsRunOf, HasRun};
@@ -7,7 +7,7 @@ use cm_record_layout::{run_words, words_from};
 use cm_record_reading::{RecordFault, read_run};
 use std::alloc::{AllocError, Global};
 
-/// Where some bytes lie: a Utf8, a name, or the content of an attribute.
+/// Where some bytes are: a Utf8, a name, or the content of an attribute.
 #[derive(Clone, Copy, Debug)]
 pub(crate) struct Run {
     /// The word at which its bytes begin.

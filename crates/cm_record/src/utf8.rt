@@ -14,7 +14,7 @@ use crate::run::{Run, run_slice};
 use cm_class::{Constant, Kind};
 use cm_record_layout::{DIRECTORY_AT, HEAD_COUNTS, first, second, word_of};
 
-/// The bytes behind the first eight.
+/// The bytes after the first eight.
 #[tactic(auto, using(std::proofs::lemmas::List::take_rest))]
 pub(crate) fn skip_eight(bytes: &[u8]) -> &[u8]
     ensures { result.now ≡ drop (min (length bytes.now) 8) bytes.now }
@@ -61,8 +61,8 @@ pub(crate) fn is_utf8(words: &[u64], constant: Option<Constant<Utf8Place>>, byte
     }
 }
 
-/// Whether the word of an index looks as that of a Utf8 of as many bytes. It may be the second of a
-/// Long or a Double all the same.
+/// Whether the word of an index looks like that of a Utf8 of as many bytes. It may still be the
+/// second word of a Long or a Double.
 #[inline(always)]
 fn may_be_utf8_of(words: &[u64], index: u16, bytes: &[u8]) -> bool
     requires { IsRecord words.now }
@@ -77,8 +77,8 @@ fn may_be_utf8_of(words: &[u64], index: u16, bytes: &[u8]) -> bool
     first(word) == Kind::Utf8.tag() && second(word) as usize == bytes.len()
 }
 
-/// Whether a Utf8 of these bytes stands at an index of the pool; `None` where it takes more words
-/// to tell than are left to be looked at, from which the others go off.
+/// Whether an index of the pool has a Utf8 of these bytes; `None` if deciding it takes more words
+/// than may still be read (`left`). The words that are read are subtracted from `left`.
 #[inline(always)]
 pub(crate) fn is_utf8_of(words: &[u64], index: u16, bytes: &[u8], left: &mut usize) -> Option<bool>
     requires { IsRecord words.now }

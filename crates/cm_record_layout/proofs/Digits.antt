@@ -1,4 +1,4 @@
--- The numbers of a word are read as they were put there.
+-- The numbers of a word are read back as they were put there.
 -- On `four_numbers`, `first_of`, `second_of`, for crates above.
 use Rattle.std.proofs.Common.{◌≡◌, ◌<◌, ◌+◌, ◌*◌, ◌^◌, ℕ, true, arith}
 use Rattle.std.specs.Prelude.{◌==◌}

@@ -82,7 +82,7 @@ members_append at (x ∷ xs) ys =
     (members_append (at + 2 * length x.attributes) xs ys ∙ ap
     (λ n. members (at + 2 * length x.attributes) xs ++ members n ys) same)
 
--- one slot more
+-- one more slot
 slot_more : (wide : Bool) (n words rest all : ℕ) → words ≡ cond wide 2 1
     → rest + cond wide 1 0 ≡ n → all ≡ words + rest → all + 0 ≡ suc n
 slot_more true n words rest all ew er ea = omega arith
@@ -105,7 +105,7 @@ constant_words_len at (constant.MethodHandle kind reference) = refl
 constant_words_len at (constant.MethodType descriptor) = refl
 constant_words_len at (constant.InvokeDynamic bootstrap_method name_and_type) = refl
 
--- a word for each slot, but the second of a wide constant that came before
+-- a word for each slot, except the second slot of a wide constant before them
 directory_len_from : (at : ℕ) (second : Bool) (slots : List Slot) → SlotsFit second slots
     → length (directory at slots) + cond second 1 0 ≡ length slots
 directory_len_from at true [] fit = absurd fit

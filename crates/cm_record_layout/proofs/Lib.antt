@@ -17,7 +17,7 @@ pub use Digits.{first-four_numbers, second-four_numbers, third-four_numbers, fou
 pub use Digits.{four_numbers_parts, first-attribute, upper-attribute, four_numbers_test}
 -- A word holds the bytes of a run.
 pub use Runs.{bytes_from, front_back, front_word}
--- Where the sections of a class stand in its record.
+-- Where the sections of a class are in its record.
 pub use Sections.{tail_joined, attributes_there, attributes_tail_len}
 pub use Sections.{runs_there, runs_tail_len, main_there, word_0, word_1, word_2, word_3, word_4}
 pub use Sections.{word_5}

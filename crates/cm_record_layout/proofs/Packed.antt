@@ -38,13 +38,13 @@ pub length-bytes_of : (word : ℕ) → length (bytes_of word) ≡ 8
 unfolding bytes_of
 length-bytes_of word = refl
 
--- ---- words from their bytes again
+-- ---- words from their bytes
 
 pub word_back : (word : ℕ) → word < 2 ^ 64 → word_from (bytes_of word) ≡ word
 unfolding word_from bytes_of
 word_back word small = from_le_bytes-to_le_bytes_8 word small
 
--- behind the first eight bytes of a word there may be more
+-- the first eight bytes are a word, and more bytes may follow
 word_in_front : (word : ℕ) (rest : List ℕ)
     → word_from (bytes_of word ++ rest) ≡ word_from (bytes_of word)
 unfolding word_from bytes_of

@@ -18,7 +18,7 @@ pub bytes_from : (bytes : List ℕ) → ((i : ℕ) → i < length bytes → get_
 bytes_from [] h = tt
 bytes_from (b ∷ bytes) h = (h 0 (omega arith), bytes_from bytes (λ i lt. h (suc i) (omega arith)))
 
--- eight bytes, with zeros where there are fewer
+-- eight bytes, filled up with zeros if there are fewer
 padded : List ℕ → List ℕ
 padded bytes = take 8 bytes ++ replicate (8 - length bytes) 0
 
@@ -77,7 +77,7 @@ front_back bytes are =
           (λ n. take 8 bytes ++ replicate n 0) none ∙ append-nil (take 8 bytes))
     ]
 
--- its first eight bytes make the same word
+-- a word's first eight bytes make the same word
 pub front_word : (bytes : List ℕ) → word_from (take 8 bytes) ≡ word_from bytes
 unfolding word_from
 front_word bytes = word_same (take 8 bytes) bytes (λ k lt. get_or-take 8 bytes k 0 lt)

@@ -1,4 +1,4 @@
--- Where the sections of a class stand in its record.
+-- Where the sections of a class are in its record.
 -- On `lay`, `first_of`, `attribute_runs_at`, for crates above.
 use Rattle.std.proofs.Common.{◌≡◌, ◌≤◌, ◌+◌, ◌*◌, ℕ, List, [], ◌∷◌, ◌++◌, length, get_or, drop}
 use Rattle.std.proofs.Common.{refl, sym, ◌∙◌, ap, subst, arith, append_assoc, length-append}
@@ -81,7 +81,7 @@ module _ (c : ClassFile) where
     attributes_tail_len =
         omega (arith, ap length lay_split, length-append front (attributes_tail c), front_len)
 
-    -- the attributes without the runs
+    -- the attributes' words without the runs
     abbrev middle : List ℕ
     middle = attributes (attribute_runs_at c) (of_fields c) ++ attributes (method_runs_at c)
         (of_methods c)
@@ -211,7 +211,7 @@ module _ (c : ClassFile) where
         (length c.methods) (length c.attributes) spelled.count spelled.fields.0 spelled.methods.0
         spelled.attributes.0
 
--- ---- what a record tells of its class
+-- ---- what a record says about its class
 
 pub record_long : (words : List ℕ) → IsRecord words → 9 ≤ length words
 record_long words (d, is) = omega (arith, ap length is.laid, lay_len d is.spelled)
@@ -220,7 +220,7 @@ pub flags_read : (c : ClassFile) (words : List ℕ) → IsRecordOf c words
     → first_of (get_or words 1 0) ≡ c.flags
 flags_read c words is = ap (λ w. first_of (get_or w 1 0)) is.laid ∙ flags_there c is.spelled
 
--- the directory lies within the record
+-- the directory is within the record
 pub directory_within : (words : List ℕ) → IsRecord words
     → 8 + first_of (get_or words 2 0) ≤ length words
 directory_within words (d, is) = subst

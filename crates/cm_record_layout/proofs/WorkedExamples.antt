@@ -1,4 +1,4 @@
--- The layout computed for one class, beside its words as they are described.
+-- The layout computed for one class, beside a description of its words.
 use Rattle.std.proofs.Common.{◌≡◌, [], ◌∷◌, refl}
 use Rattle.cm_class.specs.declared.constant.Constant.TheVariants as constant
 use Rattle.cm_class.specs.declared.constant.Slot.TheVariants.{Usable}
@@ -6,7 +6,7 @@ use Rattle.cm_class.specs.declared.class_file.ClassFile.{ClassFile}
 use Rattle.cm_record_layout.specs.Packing.{word_from}
 use Rattle.cm_record_layout.specs.Layout.{lay}
 
--- the class A, which extends java/lang/Object, of flags 0021
+-- the class A, which extends java/lang/Object, with flags 0021
 abbrev class_a : ClassFile
 class_a = record {
   slots = Usable (constant.Class 2) ∷ Usable (constant.Utf8 (0x41 ∷ [])) ∷ Usable (constant.Class 4)

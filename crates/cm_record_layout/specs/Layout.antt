@@ -18,8 +18,8 @@ abbrev pub constant_run : ClassConstant → List ℕ
 constant_run (constant.Utf8 bytes) = packed bytes
 constant_run _ = []
 
--- A constant's words in the directory, where its run begins at `at`. A Long or a Double takes the
--- word of its second slot too.
+-- A constant's words in the directory, if its run begins at `at`. A Long or a Double takes the word
+-- of its second slot too.
 abbrev pub constant_words : ℕ → ClassConstant → List ℕ
 constant_words at (constant.Utf8 bytes) = (1 + 2 ^ 16 * length bytes + 2 ^ 32 * at) ∷ []
 constant_words at (constant.Integer bits) = (3 + 2 ^ 32 * bits) ∷ []
@@ -42,7 +42,7 @@ constant_words at (constant.MethodType descriptor) = (16 + 2 ^ 32 * descriptor) 
 constant_words at (constant.InvokeDynamic bootstrap_method name_and_type) =
     (18 + 2 ^ 32 * bootstrap_method + 2 ^ 48 * name_and_type) ∷ []
 
--- the directory word of a constant whose words don't speak of a run
+-- the directory word of a constant whose words don't refer to a run
 abbrev pub whole_word : ClassConstant → ℕ
 whole_word (constant.Utf8 bytes) = 0
 whole_word c = get_or (constant_words 0 c) 0 0
@@ -51,7 +51,7 @@ abbrev pub slot_run : Slot → List ℕ
 slot_run (Usable c) = constant_run c
 slot_run Unusable = []
 
--- the directory behind slot 0, where the first run begins at `at` and each next one behind the one
+-- the directory after slot 0; the first run begins at `at`, and each next one follows the one
 -- before
 abbrev pub directory : ℕ → List Slot → List ℕ
 directory at [] = []
@@ -64,7 +64,7 @@ utf8_runs slots = flat_map slot_run slots
 
 -- ---- members and attributes
 
--- two words each: the numbers, and where its attributes begin
+-- two words for each member: the numbers, and where its attributes begin
 abbrev pub members : ℕ → List Member → List ℕ
 members at [] = []
 members at (m ∷ rest) =
@@ -77,7 +77,7 @@ member_attributes those = flat_map (λ m. m.attributes) those
 abbrev pub attribute_run : Attribute → List ℕ
 attribute_run a = packed a.bytes
 
--- two words each: name and length, and where its run begins
+-- two words for each attribute: name and length, and where its run begins
 abbrev pub attributes : ℕ → List Attribute → List ℕ
 attributes at [] = []
 attributes at (a ∷ rest) =
@@ -124,7 +124,7 @@ head c =
     ∷ four_numbers (length c.slots + 1) (length c.fields) (length c.methods) (length c.attributes)
     ∷ 8 ∷ interfaces_at c ∷ members_at c ∷ attributes_at c ∷ runs_at c ∷ []
 
--- the words of a head, by the names that code has for their places
+-- the words of a head, under the names that the code uses for their places
 abbrev pub head_total : List ℕ → ℕ
 head_total words = get_or words 0 0
 
@@ -149,7 +149,7 @@ head_attributes_at words = get_or words 6 0
 abbrev pub head_runs_at : List ℕ → ℕ
 head_runs_at words = get_or words 7 0
 
--- Behind the head: the directory, whose slot 0 is 0, the interfaces, the members, the attributes,
+-- After the head: the directory, whose slot 0 is 0, the interfaces, the members, the attributes,
 -- and the runs, first those of the pool.
 unfoldable pub lay : ClassFile → List ℕ
 lay c =

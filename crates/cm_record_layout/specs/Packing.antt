@@ -1,25 +1,26 @@
 -- Bytes in words, and small numbers side by side in a word.
 use Rattle.std.specs.Prelude.{ℕ, zero, suc, ◌+◌, ◌*◌, ◌/◌, ◌%◌, ◌^◌, List, [], ◌∷◌, length, drop}
 use Rattle.std.specs.Int.{w64, from_le_bytes}
--- a word's eight bytes, and each word as these
+-- a word's eight bytes, and each word from them
 unfoldable pub use Rattle.cm_words.specs.Bytes.{bytes_of}
 pub use Rattle.cm_words.specs.Bytes.{word_bytes}
 
--- the word of the first eight bytes, the first of them lowest; where there are fewer, the rest is 0
+-- the word of the first eight bytes, the first of them lowest; if there are fewer, the remaining
+-- bits are 0
 unfoldable pub word_from : List ℕ → ℕ
 word_from bytes = from_le_bytes w64 bytes
 
--- so many words: byte j is bits 8 * (j mod 8) and up of word j div 8, and what is left of the last
--- word is 0
+-- this many words: byte j is bits 8 * (j mod 8) and up of word j div 8, and the unused bits of the
+-- last word are 0
 abbrev pub packed_into : ℕ → List ℕ → List ℕ
 packed_into zero bytes = []
 packed_into (suc n) bytes = word_from bytes ∷ packed_into n (drop 8 bytes)
 
--- as many words as a run of so many bytes takes
+-- how many words a run of `count` bytes takes
 abbrev pub run_words : ℕ → ℕ
 run_words count = (count + 7) / 8
 
--- a run: eight bytes to a word, the first of them lowest
+-- a run: eight bytes per word, the first of them lowest
 abbrev pub packed : List ℕ → List ℕ
 packed bytes = packed_into (run_words (length bytes)) bytes
 
@@ -40,6 +41,6 @@ third_of word = word / 2 ^ 32 % 2 ^ 16
 abbrev pub fourth_of : ℕ → ℕ
 fourth_of word = word / 2 ^ 48 % 2 ^ 16
 
--- the upper half of a word
+-- the upper 32 bits of a word
 abbrev pub upper_of : ℕ → ℕ
 upper_of word = word / 2 ^ 32 % 2 ^ 32

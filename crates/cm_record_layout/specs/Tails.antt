@@ -1,4 +1,5 @@
--- The parts of a record from one of its sections on, and where the parts of sections begin.
+-- The parts of a record from one of its sections on, and at which offsets the parts of sections
+-- begin.
 use Rattle.std.specs.Prelude.{ℕ, ◌+◌, ◌*◌, List, [], ◌++◌, length}
 use Rattle.cm_class.specs.declared.class_file.Attribute.{Attribute}
 use Rattle.cm_class.specs.declared.class_file.ClassFile.{ClassFile}

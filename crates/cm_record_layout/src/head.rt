@@ -6,7 +6,7 @@ pub const HEAD_TOTAL: usize = 0;
 /// The head's word with the flags, this_class, super_class and the interface count.
 pub const HEAD_CLASS: usize = 1;
 
-/// The head's word with the pool count and the counts of fields, of methods and of the class's
+/// The head's word with the pool's count and the counts of fields, of methods and of the class's
 /// attributes.
 pub const HEAD_COUNTS: usize = 2;
 
@@ -25,8 +25,8 @@ pub const HEAD_ATTRIBUTES_AT: usize = 6;
 /// The head's word with the offset of the runs.
 pub const HEAD_RUNS_AT: usize = 7;
 
-/// The offset of the directory, right behind the head. Its first word, that of slot 0, is 0.
+/// The offset of the directory, right after the head. Its first word, that of slot 0, is 0.
 pub const DIRECTORY_AT: usize = 8;
 
-/// The offset of the directory's word of slot 1, where the constants begin.
+/// The offset of the directory's word of slot 1, at which the constants begin.
 pub const SLOT_1_AT: usize = 9;

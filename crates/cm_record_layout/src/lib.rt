@@ -1,4 +1,4 @@
-//! How a class is laid out as words: the definition, and bytes and small numbers in words.
+//! How a class is laid out as words: the definition, and how words hold bytes and small numbers.
 #![tactic(auto)]
 
 mod directory;

@@ -12,28 +12,28 @@ pub fn first(word: u64) -> u16
     (word % SECOND) as u16
 }
 
-/// The second one.
+/// The second number of 16 bits in a word.
 pub fn second(word: u64) -> u16
     ensures { result ≡ second_of word }
 {
     (word / SECOND % SECOND) as u16
 }
 
-/// The third one.
+/// The third number of 16 bits in a word.
 pub fn third(word: u64) -> u16
     ensures { result ≡ third_of word }
 {
     (word / THIRD % SECOND) as u16
 }
 
-/// The fourth one.
+/// The fourth number of 16 bits in a word.
 pub fn fourth(word: u64) -> u16
     ensures { result ≡ fourth_of word }
 {
     (word / FOURTH % SECOND) as u16
 }
 
-/// The upper half of a word.
+/// The upper 32 bits of a word.
 pub fn upper(word: u64) -> u32
     ensures { result ≡ upper_of word }
 {

@@ -7,7 +7,7 @@ ghost use Rattle.cm_record_layout.specs.Packing.{four_numbers as four_numbers_of
 /// The greatest number of words that a record has.
 pub const MAX_WORDS: u64 = 524_288;
 
-/// What one more in the second number of 16 bits of a word adds to the word.
+/// What adding 1 to the second number of 16 bits of a word adds to the word.
 pub const SECOND: u64 = 1 << 16;
 
 /// The same in the third number.
@@ -26,7 +26,7 @@ pub fn four_numbers(first: u16, second: u16, third: u16, fourth: u16) -> u64
         + FOURTH * u64::from(fourth)
 }
 
-/// The first bytes of fewer than eight, with zeros behind them.
+/// Fewer than eight bytes, filled up with zeros.
 fn pad_to_eight(bytes: &[u8]) -> [u8; 8]
     ensures { (k : ℕ) → k < 8 → slice_index result k ≡ slice_index bytes.now k }
 {
@@ -36,7 +36,7 @@ fn pad_to_eight(bytes: &[u8]) -> [u8; 8]
     eight
 }
 
-/// The first eight bytes, with zeros where there are fewer.
+/// The first eight bytes, filled up with zeros if there are fewer.
 fn first_eight(bytes: &[u8]) -> [u8; 8]
     ensures { (k : ℕ) → k < 8 → slice_index result k ≡ slice_index bytes.now k }
 {
@@ -47,15 +47,15 @@ fn first_eight(bytes: &[u8]) -> [u8; 8]
     }
 }
 
-/// The word of the first eight bytes, the first of them lowest. Where there are fewer, the rest is
-/// 0.
+/// The word of the first eight bytes, the first of them lowest. If there are fewer, the remaining
+/// bits are 0.
 pub fn word_of(bytes: &[u8]) -> u64
     ensures { result ≡ word_from bytes.now }
 {
     u64::from_le_bytes(first_eight(bytes))
 }
 
-/// How many words a run of so many bytes takes.
+/// How many words a run of `count` bytes takes.
 pub fn run_words(count: usize) -> u64
     ensures { result ≡ words_of_run count }
 {

@@ -1,4 +1,4 @@
--- What was laid out is read again, whatever follows it.
+-- What was laid out is read back, whatever follows it.
 -- For `is_record`, `layout_determines_class`, `spell_class`.
 use Rattle.std.proofs.Common.{◌≡◌, ◌+◌, ◌-◌, ◌*◌, ◌^◌, ℕ, Bool, true, false, List, [], ◌∷◌, ◌++◌}
 use Rattle.std.proofs.Common.{length, Some, refl, ◌∙◌, ap, arith, append_assoc, length-append}

@@ -1,4 +1,4 @@
--- What a directory word may stand for, of the words of a class.
+-- What a directory word may denote, of the words of a class.
 -- For `is_record`, `layout_determines_class`, `spell_class`.
 use Rattle.std.proofs.Common.{◌≡◌, ◌<◌, ◌+◌, ◌*◌, ◌/◌, ◌%◌, ◌^◌, ℕ, Some, refl, arith}
 use Rattle.cm_class.specs.declared.constant.Constant.TheVariants as constant

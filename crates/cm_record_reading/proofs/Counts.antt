@@ -1,4 +1,4 @@
--- As many items are read as were asked for, and each part is spelled as it was read.
+-- As many items are read as were requested, and each part is spelled as it was read.
 -- For `spell_attributes`, `spell_interfaces`, `spell_members` and others.
 use Rattle.std.proofs.Common.{◌≡◌, ◌≤◌, ◌-◌, ◌<◌, ◌^◌, ℕ, zero, suc, Bool, true, false, List}
 use Rattle.std.proofs.Common.{[], ◌∷◌, ◌++◌, length, take, drop, get_or, Option, Some, None, refl}
@@ -15,7 +15,7 @@ use Rattle.cm_record_layout.specs.Packing.{upper_of}
 use Rattle.cm_record_layout.proofs.{four_numbers_test}
 use Rattle.cm_record_reading.specs.Reading.{◌>>=◌, run_at, constant_at, slots_at, attribute_word}
 use Rattle.cm_record_reading.specs.Reading.{attribute_at, attributes_from, member_at, members_from}
-use Rattle.cm_record_reading.specs.Reading.{with_front, behind, behind3, behind4, utf8_bytes}
+use Rattle.cm_record_reading.specs.Reading.{with_front, appended, behind3, behind4, utf8_bytes}
 use Rattle.cm_record_reading.specs.Reading.{content_bytes}
 use Rattle.cm_record_reading.proofs.Taken.{bind_some, some_same, run_taken}
 
@@ -67,19 +67,19 @@ members_many total (suc n) main attrs runs x e =
 
 -- ---- runs
 
--- what was put before a run, and the run, are spelled together, where this holds of its length
+-- a run, and what was put before it, are spelled together, if `spelled` depends on the run's length
 run_spelled : (spelled : List ℕ → List ℕ) (front front' : List ℕ) (count : ℕ)
     (read : Option (List ℕ × List ℕ))
     → ((x : List ℕ × List ℕ) → read ≡ Some x → length x.0 ≡ count)
     → ((bytes : List ℕ) → length bytes ≡ count → front' ++ bytes ≡ front ++ spelled bytes)
-    → with_front front' read ≡ behind front spelled read
+    → with_front front' read ≡ appended front spelled read
 run_spelled spelled front front' count None many same = refl
 run_spelled spelled front front' count (Some read) many same =
     ap (λ w. Some (w, read.1)) (same read.0 (many read refl))
 
 pub utf8_spelled : (front front' : List ℕ) (count : ℕ) (words : List ℕ)
     → front' ≡ front ++ (u1 1 ++ u2 count)
-    → with_front front' (run_at count words) ≡ behind front utf8_bytes (run_at count words)
+    → with_front front' (run_at count words) ≡ appended front utf8_bytes (run_at count words)
 utf8_spelled front front' count words e =
     run_spelled utf8_bytes front front' count (run_at count words)
     (λ x found. (run_taken count words x found).many)
@@ -88,7 +88,7 @@ utf8_spelled front front' count words e =
 pub content_spelled : (name : ℕ) (front front' : List ℕ) (count : ℕ) (words : List ℕ)
     → front' ≡ front ++ u2 name ++ u4 count
     → with_front front' (run_at count words)
-    ≡ behind front (content_bytes name) (run_at count words)
+    ≡ appended front (content_bytes name) (run_at count words)
 content_spelled name front front' count words e =
     run_spelled (content_bytes name) front front' count (run_at count words)
     (λ x found. (run_taken count words x found).many)
@@ -96,7 +96,7 @@ content_spelled name front front' count words e =
 
 -- ---- an attribute
 
--- what is left behind it too
+-- what is left after it too
 abbrev pub with_rest : {A B C : Type 0} → C → Option (A × B) → Option (A × C × B)
 with_rest rest None = None
 with_rest rest (Some read) = Some (read.0, rest, read.1)
@@ -104,7 +104,7 @@ with_rest rest (Some read) = Some (read.0, rest, read.1)
 content_read : (out : List ℕ) (name : ℕ) (rest : List ℕ) (read : Option (List ℕ × List ℕ))
     → behind3 out attribute_bytes (read >>= λ run.
     Some (record { name = name; bytes = run.0 }, rest, run.1))
-    ≡ with_rest rest (behind out (content_bytes name) read)
+    ≡ with_rest rest (appended out (content_bytes name) read)
 content_read out name rest None = refl
 content_read out name rest (Some read) = refl
 
@@ -113,7 +113,7 @@ pub attribute_spelled : (total : ℕ) (attrs runs out : List ℕ) → 2 ≤ leng
     → get_or attrs 1 0 ≡ total - length runs
     → behind3 out attribute_bytes (attribute_at total attrs runs)
     ≡ with_rest (take (length attrs - 2) (drop 2 attrs))
-    (behind out (content_bytes (first_of (get_or attrs 0 0)))
+    (appended out (content_bytes (first_of (get_or attrs 0 0)))
     (run_at (upper_of (get_or attrs 0 0)) runs))
 unfolding attribute_at
 attribute_spelled total [] runs out long word at = absurd (omega arith)

@@ -20,7 +20,7 @@ pub with_front-append : {A B : Type 0} (xs ys : List A) (read : Option (List A �
 with_front-append xs ys None = refl
 with_front-append xs ys (Some read) = ap (λ w. Some (w, read.1)) (append_assoc xs ys read.0)
 
--- reading goes on as `do` says it
+-- reading continues as `do` says
 pub go_on : (front : List ℕ) (read : Option (List ℕ × List ℕ))
     → (read >>= λ others. Some (front ++ others.0, others.1)) ≡ with_front front read
 go_on front None = refl

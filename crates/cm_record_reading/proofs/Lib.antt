@@ -14,7 +14,7 @@ mod Skips
 pub use RunsBack.{run_again}
 -- A whole record is read again.
 pub use WholeRecord.{class_again}
--- What is read was laid out so.
+-- Words from which something is read are its layout.
 pub use Taken.{some_same}
--- A whole record that is read was laid out so.
+-- A whole record from which a class is read is the layout of that class.
 pub use TakenRecord.{class_taken}

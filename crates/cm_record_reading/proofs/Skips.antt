@@ -37,7 +37,7 @@ left3-more : {A B C D E : Type 0} (f : A → E) (read : Option (A × B × C × D
 left3-more f None = refl
 left3-more f (Some read) = refl
 
--- what was read, where this is left
+-- what was read, if this is left
 
 left2_found : {A B C : Type 0} (read : Option (A × B × C)) (x : B × C) → left2 read ≡ Some x
     → (a : A) × (read ≡ Some (a, x.0, x.1))

@@ -1,4 +1,4 @@
--- The parts of a class file, spelled one behind another.
+-- The parts of a class file, spelled one after another.
 -- For `spell_body`, `spell_class`, `spell_pool`, `spell_words`.
 use Rattle.std.proofs.Common.{◌≡◌, ◌≤◌, ◌+◌, ◌-◌, ◌^◌, ◌<◌, ℕ, true, false, List, [], ◌++◌}
 use Rattle.std.proofs.Common.{length, drop, get_or, Option, Some, None, Result, Ok, Err, refl, sym}
@@ -19,7 +19,7 @@ use Rattle.cm_record_reading.specs.declared.fault.RecordFault.TheVariants.{NotAR
 use Rattle.cm_record_reading.specs.Reading.{Gives, slots_at, interfaces_from}
 use Rattle.cm_record_reading.specs.Reading.{attributes_from, members_from, head_is_right}
 use Rattle.cm_record_reading.specs.Reading.{sections_end, pool_from, body_from, pool_of, body_of}
-use Rattle.cm_record_reading.specs.Reading.{class_at, behind, behind3, behind4, pool_bytes}
+use Rattle.cm_record_reading.specs.Reading.{class_at, appended, behind3, behind4, pool_bytes}
 use Rattle.cm_record_reading.specs.Reading.{pool_behind, body_behind, class_behind}
 use Rattle.cm_record_reading.proofs.Turns.{behind_found, behind_none, behind3_found, behind3_none}
 use Rattle.cm_record_reading.proofs.Turns.{behind4_found, behind4_none}
@@ -27,7 +27,7 @@ use Rattle.cm_record_reading.proofs.Counts.{slots_many}
 use Rattle.cm_record_reading.proofs.WholeRecord.{always_read}
 use Rattle.cm_record_reading.proofs.TakenRecord.{class_taken}
 
--- ---- bytes behind one another
+-- ---- bytes after one another
 
 three_joined : (out out1 out2 out3 a b c : List ℕ) → out1 ≡ out ++ a → out2 ≡ out1 ++ b
     → out3 ≡ out2 ++ c → out ++ a ++ b ++ c ≡ out3
@@ -114,7 +114,7 @@ module _ (total f m o : ℕ) (main attrs runs out : List ℕ) where
 
 -- ---- the pool
 
--- what was put behind one another is the front of the class file
+-- the parts that were appended are the front of the class file
 pool_joined : (out out1 out2 out3 out4 : List ℕ) (words : List ℕ) (slots : List Slot)
     (those : List ℕ) → 1 ≤ first_of (head_counts words)
     → length slots ≡ first_of (head_counts words) - 1
@@ -148,7 +148,7 @@ module _ (words out out1 : List ℕ) (some : 1 ≤ first_of (head_counts words))
   module _ (out2 main1 runs1 : List ℕ) (slots : behind3 out1 (flat_map slot_bytes)
       (slots_at (length words) false (first_of (head_counts words) - 1) (drop 9 words)
       (drop (head_runs_at words) words)) ≡ Some (out2, main1, runs1)) (out3 : List ℕ) where
-    pub interfaces_none : behind out3 (counted u2)
+    pub interfaces_none : appended out3 (counted u2)
         (interfaces_from (fourth_of (head_class words)) main1) ≡ None
         → pool_behind out words (pool_of words) ≡ None
     unfolding pool_from
@@ -166,7 +166,7 @@ module _ (words out out1 : List ℕ) (some : 1 ≤ first_of (head_counts words))
     pub pool_made : (out4 main2 : List ℕ)
         → out3 ≡ out2 ++ u2 (first_of (head_class words)) ++ u2 (second_of (head_class words))
         ++ u2 (third_of (head_class words))
-        → behind out3 (counted u2) (interfaces_from (fourth_of (head_class words)) main1)
+        → appended out3 (counted u2) (interfaces_from (fourth_of (head_class words)) main1)
         ≡ Some (out4, main2)
         → pool_behind out words (pool_of words) ≡ Some (out4, main2, runs1)
     unfolding pool_from

@@ -1,4 +1,4 @@
--- What is read was laid out so.
+-- Words from which something is read are its layout.
 -- For `is_record`, `spell_class` and others.
 use Rattle.std.proofs.Common.{◌≡◌, ◌<◌, ◌+◌, ◌-◌, ◌*◌, ◌^◌, ℕ, zero, suc, Bool, true}
 use Rattle.std.proofs.Common.{false, List, [], ◌∷◌, ◌++◌, length, take, min, Option, Some, None}
@@ -34,7 +34,7 @@ use Rattle.cm_record_reading.specs.Reading.{member_at, members_from}
 use Rattle.cm_record_layout.proofs.{packed_more, word_same, length-bytes_of, attributes_append}
 use Rattle.cm_record_layout.proofs.{attribute_runs_append, attributes_len}
 
--- ---- what an answer says of the steps before it
+-- ---- what a result says about the steps before it
 
 pub bind_some : {A B : Type 0} (o : Option A) (f : A → Option B) (y : B) → (o >>= f) ≡ Some y
     → (x : A) × (o ≡ Some x) × (f x ≡ Some y)
@@ -82,7 +82,7 @@ pub record RunTaken (count : ℕ) (words : List ℕ) (x : List ℕ × List ℕ) 
   pub many : length x.0 ≡ count
   pub split : words ≡ packed x.0 ++ x.1
 
--- a word more at the front
+-- one more word at the front
 run_more : (count word : ℕ) (front others : List ℕ) → 0 < count
     → front ≡ take count (bytes_of word) → word_from front ≡ word → length others ≡ count - 8
     → packed (front ++ others) ≡ word ∷ packed others
@@ -159,7 +159,7 @@ EntryFits (Some entry.Long) = Unit {0}
 EntryFits (Some entry.Double) = Unit {0}
 EntryFits (Some (entry.Whole c)) = IsPlain c
 
--- what stands in the parts of a word fits
+-- the parts of a word fit
 fits_of_kind : (kind : Kind) (word : ℕ) → EntryFits (Some (entry_of_kind kind word))
 fits_of_kind kinds.Utf8 word = omega arith
 fits_of_kind kinds.Integer word =

@@ -1,4 +1,4 @@
--- A whole record that is read was laid out so.
+-- A whole record from which a class is read is the layout of that class.
 -- For `is_record`, `spell_class` and others.
 use Rattle.std.proofs.Common.{◌≡◌, ◌<◌, ◌≤◌, ◌+◌, ◌-◌, ◌*◌, ◌^◌, ℕ, true, false, List, [], ◌∷◌}
 use Rattle.std.proofs.Common.{◌++◌, length, get_or, drop, Option, Some, None, refl}
@@ -111,7 +111,7 @@ none_left : (xs : List ℕ) → length xs ≡ 0 → xs ≡ []
 none_left [] e = refl
 none_left (x ∷ xs) e = absurd (omega arith)
 
--- what is left behind a part of what is left
+-- what is left after a part of what is left
 deeper : (k n : ℕ) (w front rest : List ℕ) → drop k w ≡ front ++ rest
     → length rest + n ≡ length w → k ≤ length w → drop n w ≡ rest
 deeper k n w front rest e size le =
@@ -167,7 +167,7 @@ module _ (w : List ℕ) (c : ClassFile) (m1 m2 m3 m4 a1 a2 a3 r1 r2 r3 r4 : List
     attributes = (omega (arith, own.many), own.fits);
   }
 
-  -- where the runs of the attributes of fields begin, and those that follow
+  -- where the runs of the attributes of fields begin, and the runs that follow
   abbrev field_runs_at : ℕ
   field_runs_at = get_or w 7 0 + length (utf8_runs c.slots)
 
@@ -334,7 +334,7 @@ pool_parts total count n main runs p e =
     × (slots_at total false count main runs ≡ Some (x.0, m, x.3))
     × (interfaces_from n m ≡ Some (x.1, x.2))) same (s.0.1, s.1, i.1)
 
--- and of what stands behind them
+-- what was read of the body after them
 record BodyParts (total fields methods own : ℕ) (main attrs runs : List ℕ)
     (p : List Member × List Member × List Attribute × List ℕ × List ℕ × List ℕ) : Type 0 where
   between : List ℕ × List ℕ × List ℕ
@@ -364,7 +364,7 @@ body_parts total fields methods own main attrs runs p e =
       of_class = a.1;
     })
 
--- where a class is read, the words are its layout
+-- if a class is read, the words are its layout
 pub class_taken : (w : List ℕ) (c : ClassFile) → get_or w 1 0 < 2 ^ 64 → get_or w 2 0 < 2 ^ 64
     → class_at w ≡ Some c → HasSpelling c × (w ≡ lay c)
 unfolding class_at
@@ -454,4 +454,4 @@ record_of_read w small_1 small_2 short e =
 pub read_of_record : (w : List ℕ) → IsRecord w → is_some (class_at w) ≡ true
 read_of_record w (c, is) = ap is_some (ap class_at is.laid ∙ class_again c is.spelled)
 
--- ---- what reading answers
+-- ---- what reading returns

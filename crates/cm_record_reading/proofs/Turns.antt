@@ -1,5 +1,5 @@
 -- The turns of the loops that spell lists. `all` is what the whole loop should give: what the
--- buffer holds so far, and behind it the spelling of what is left.
+-- buffer holds so far, followed by the spelling of what is left.
 -- For `spell_attributes`, `spell_interfaces`, `spell_members`, `spell_slots`.
 use Rattle.std.proofs.Common.{◌≡◌, ◌<◌, ◌≤◌, ◌+◌, ◌-◌, ◌^◌, ℕ, zero, suc, Bool, true, false, List}
 use Rattle.std.proofs.Common.{[], ◌∷◌, ◌++◌, length, take, drop, get_or, Option, Some, None, refl}
@@ -17,29 +17,29 @@ use Rattle.cm_record_reading.specs.declared.fault.RecordFault.{RecordFault}
 use Rattle.cm_record_reading.specs.declared.fault.RecordFault.TheVariants.{NotARecord, NoMemory}
 use Rattle.cm_record_reading.specs.Reading.{Fails, ◌>>=◌, interfaces_from, constant_at, slots_at}
 use Rattle.cm_record_reading.specs.Reading.{attribute_at, attributes_from, member_at, members_from}
-use Rattle.cm_record_reading.specs.Reading.{behind, behind3, behind4, constant_behind}
+use Rattle.cm_record_reading.specs.Reading.{appended, behind3, behind4, constant_behind}
 
 module _ {A B : Type 0} (f : A → List ℕ) where
   behind-cons : (front : List ℕ) (x : A) (read : Option (List A × B))
-      → behind (front ++ f x) (flat_map f) read
-      ≡ behind front (flat_map f) (read >>= λ others. Some (x ∷ others.0, others.1))
+      → appended (front ++ f x) (flat_map f) read
+      ≡ appended front (flat_map f) (read >>= λ others. Some (x ∷ others.0, others.1))
   behind-cons front x None = refl
   behind-cons front x (Some read) = ap
       (λ w. Some (w, read.1)) (append_assoc front (f x) (flat_map f read.0))
 
-  -- the count, which was put before the items, is theirs
+  -- the count, which was put before the items, is the number of the items
   pub behind-counted : (front front' : List ℕ) (n : ℕ) (read : Option (List A × B))
       → front' ≡ front ++ u2 n → ((x : List A × B) → read ≡ Some x → length x.0 ≡ n)
-      → behind front' (flat_map f) read ≡ behind front (counted f) read
+      → appended front' (flat_map f) read ≡ appended front (counted f) read
   behind-counted front front' n None e many = refl
   behind-counted front front' n (Some read) e many =
       rw (e, many read refl)
       (ap (λ w. Some (w, read.1)) (append_assoc front (u2 n) (flat_map f read.0)))
 
 module _ {A B : Type 0} (f : A → List ℕ) where
-  -- what was read, where this was put behind
+  -- what was read, if this was appended
   pub behind_found : (front front' : List ℕ) (b : B) (read : Option (A × B))
-      → behind front f read ≡ Some (front', b)
+      → appended front f read ≡ Some (front', b)
       → (a : A) × (read ≡ Some (a, b)) × (front' ≡ front ++ f a)
   behind_found front front' b None e = absurd (cc)
   behind_found front front' b (Some read) e =
@@ -51,7 +51,7 @@ module _ {A B : Type 0} (f : A → List ℕ) where
         sym (ap (λ p. p.0) same),
       )
 
-  pub behind_none : (front : List ℕ) (read : Option (A × B)) → behind front f read ≡ None
+  pub behind_none : (front : List ℕ) (read : Option (A × B)) → appended front f read ≡ None
       → read ≡ None
   behind_none front None e = refl
   behind_none front (Some read) e = absurd (cc)
@@ -129,7 +129,7 @@ module _ {A B C D : Type 0} (f : A → List ℕ) where
 -- ---- interfaces
 
 pub interfaces_short : (out rest : List ℕ) (all : Option (List ℕ × List ℕ)) (n : ℕ)
-    → behind out (flat_map u2) (interfaces_from n rest) ≡ all → 0 < n → length rest < 1
+    → appended out (flat_map u2) (interfaces_from n rest) ≡ all → 0 < n → length rest < 1
     → all ≡ None
 unfolding interfaces_from
 interfaces_short out rest all zero kept some short = absurd (omega arith)
@@ -137,7 +137,7 @@ interfaces_short out [] all (suc n) kept some short = sym kept
 interfaces_short out (w ∷ ws) all (suc n) kept some short = absurd (omega arith)
 
 pub interfaces_wrong : (out rest : List ℕ) (all : Option (List ℕ × List ℕ)) (n : ℕ)
-    → behind out (flat_map u2) (interfaces_from n rest) ≡ all → 0 < n → 1 ≤ length rest
+    → appended out (flat_map u2) (interfaces_from n rest) ≡ all → 0 < n → 1 ≤ length rest
     → 2 ^ 16 ≤ get_or rest 0 0 → all ≡ None
 unfolding interfaces_from
 interfaces_wrong out rest all zero kept some long wrong = absurd (omega arith)
@@ -147,10 +147,10 @@ interfaces_wrong out (w ∷ ws) all (suc n) kept some long wrong =
     sym (rw test at kept)
 
 pub interfaces_next : (out out' rest : List ℕ) (all : Option (List ℕ × List ℕ)) (n m : ℕ)
-    → behind out (flat_map u2) (interfaces_from n rest) ≡ all → n ≡ m + 1 → 1 ≤ length rest
+    → appended out (flat_map u2) (interfaces_from n rest) ≡ all → n ≡ m + 1 → 1 ≤ length rest
     → get_or rest 0 0 < 2 ^ 16
     → out' ≡ out ++ u2 (get_or rest 0 0)
-    → behind out' (flat_map u2) (interfaces_from m (take (length rest - 1) (drop 1 rest))) ≡ all
+    → appended out' (flat_map u2) (interfaces_from m (take (length rest - 1) (drop 1 rest))) ≡ all
 unfolding interfaces_from
 interfaces_next out out' rest all zero m kept en long small e = absurd (omega arith)
 interfaces_next out out' [] all (suc n) m kept en long small e = absurd (omega arith)
@@ -162,14 +162,14 @@ interfaces_next out out' (w ∷ ws) all (suc n) m kept en long small e =
     rw (e, same, behind_it) (behind-cons u2 out w (interfaces_from n ws) ∙ rw test at kept)
 
 pub interfaces_done : (out rest : List ℕ) (all : Option (List ℕ × List ℕ)) (n : ℕ)
-    → behind out (flat_map u2) (interfaces_from n rest) ≡ all → n ≡ 0 → all ≡ Some (out, rest)
+    → appended out (flat_map u2) (interfaces_from n rest) ≡ all → n ≡ 0 → all ≡ Some (out, rest)
 unfolding interfaces_from
 interfaces_done out rest all zero kept e = sym kept ∙ ap (λ w. Some (w, rest)) (append-nil out)
 interfaces_done out rest all (suc n) kept e = absurd (omega arith)
 
 -- ---- slots
 
--- what was read, where this was put behind
+-- what was read, if this was appended
 constant_found : (out out' : List ℕ) (wide : Bool) (main' runs' : List ℕ)
     (read : Option (ClassConstant × List ℕ × List ℕ))
     → constant_behind out read ≡ Some (out', wide, main', runs')
@@ -321,7 +321,7 @@ module _ (total : ℕ) (out : List ℕ) (all : Option (List ℕ × List ℕ × L
   members_done zero kept e = sym kept ∙ ap (λ w. Some (w, main, attrs, runs)) (append-nil out)
   members_done (suc n) kept e = absurd (omega arith)
 
--- a part that fails is a whole that fails
+-- if a part fails, the whole fails
 pub fails_through : {X Y : Type 0} (e : RecordFault) (part : Option X) (all : Option Y)
     → (part ≡ None → all ≡ None) → Fails e part → Fails e all
 fails_through NotARecord part all follows none = follows none

@@ -1,4 +1,4 @@
--- A whole record is read again.
+-- A whole record is read back.
 -- For `layout_determines_class` and others.
 use Rattle.std.proofs.Common.{◌≡◌, ◌≤◌, ◌+◌, ◌-◌, ◌*◌, ℕ, true, false, List, [], ◌++◌, length}
 use Rattle.std.proofs.Common.{get_or, drop, Some, None, refl, sym, ◌∙◌, ap, subst, arith}
@@ -92,7 +92,7 @@ module _ (c : ClassFile) (spelled : HasSpelling c) where
       ))
       (omega (arith, (word_6 c), total)) (omega (arith, (word_7 c), total))
 
-  -- a class's record is read as that class
+  -- a class's record is read back as that class
   pub class_again : class_at (lay c) ≡ Some c
   class_again =
       let total = length (lay c) in
@@ -150,13 +150,13 @@ module _ (c : ClassFile) (spelled : HasSpelling c) where
 class_of_record : (c : ClassFile) (words : List ℕ) → IsRecordOf c words → class_at words ≡ Some c
 class_of_record c words is = ap class_at is.laid ∙ class_again c is.spelled
 
--- there is one
+-- a record is read as some class
 pub same_class : (c d : ClassFile) (words : List ℕ) → IsRecordOf c words → IsRecordOf d words
     → c ≡ d
 same_class c d words of_c of_d = let both : Some c ≡ Some d =
     sym (class_of_record c words of_c) ∙ class_of_record d words of_d in cc
 
--- it is the one that is read
+-- that class is the one that is read
 pub read_class_is : (c : ClassFile) (words : List ℕ) → IsRecord words → class_at words ≡ Some c
     → IsRecordOf c words
 read_class_is c words (d, is) read =

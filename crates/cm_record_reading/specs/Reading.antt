@@ -1,6 +1,6 @@
 -- Reading a class from the words of a record, as a function of lists: what is read, and what is
--- left; none where the words are no record. What it has to do with layouts is proved above it, in
--- the law of this crate and in `Record::read`.
+-- left; `None` if the words are no record. How reading relates to layouts is proved on top of it,
+-- in the law of this crate and in `Record::read`.
 use Rattle.std.specs.Prelude.{◌≡◌, ℕ, zero, suc, ◌+◌, ◌-◌, ◌*◌, ◌/◌, ◌%◌, ◌^◌, Bool, true, false}
 use Rattle.std.specs.Prelude.{List, [], ◌∷◌, ◌++◌, length, take, drop, get_or, Option, Some, None}
 use Rattle.std.specs.Prelude.{Result, Ok, Err, nat_lt, nat_le, ◌==◌, ◌&&◌}
@@ -40,19 +40,19 @@ abbrev pub Gives : {X Y : Type 0} → (X → Y) → Result X RecordFault → Opt
 Gives view (Ok x) read = read ≡ Some (view x)
 Gives view (Err e) read = Fails e read
 
--- goes on where the test holds
+-- continues if the test holds
 abbrev pub only_if : {A : Type 0} → Bool → Option A → Option A
 only_if true go_on = go_on
 only_if false go_on = None
 
 -- ---- runs
 
--- so many bytes of one word, behind which it has only zeros; at most eight
+-- `count` bytes of one word, which has only zeros after them; at most eight
 abbrev pub front_of : ℕ → ℕ → Option (List ℕ)
 front_of count word =
     only_if (word_from (take count (bytes_of word)) == word) (Some (take count (bytes_of word)))
 
--- so many bytes in so many words
+-- `count` bytes from this many words
 unfoldable pub run_from : ℕ → ℕ → List ℕ → Option (List ℕ × List ℕ)
 run_from zero count words = Some ([], words)
 run_from (suc n) count [] = None
@@ -61,13 +61,13 @@ run_from (suc n) count (word ∷ words) = do
   others ← run_from n (count - 8) words
   Some (front ++ others.0, others.1)
 
--- a run of so many bytes
+-- a run of `count` bytes
 abbrev pub run_at : ℕ → List ℕ → Option (List ℕ × List ℕ)
 run_at count words = run_from (run_words count) count words
 
 -- ---- the constant pool
 
--- what a directory word of this kind stands for
+-- what a directory word of this kind denotes
 abbrev pub entry_of_kind : Kind → ℕ → DirectoryEntry
 entry_of_kind kinds.Utf8 word = entry.Utf8 (second_of word)
 entry_of_kind kinds.Integer word = entry.Whole (constant.Integer (upper_of word))
@@ -89,7 +89,7 @@ entry_of_kind kinds.MethodType word = entry.Whole (constant.MethodType (third_of
 entry_of_kind kinds.InvokeDynamic word =
     entry.Whole (constant.InvokeDynamic (third_of word) (fourth_of word))
 
--- what a directory word may stand for, by its tag
+-- what a directory word may denote, by its tag
 unfoldable pub candidate : ℕ → Option DirectoryEntry
 candidate word = do
   kind ← tag_of (first_of word)
@@ -102,13 +102,13 @@ entry_word at entry.Long = 5
 entry_word at entry.Double = 6
 entry_word at (entry.Whole c) = whole_word c
 
--- what a directory word stands for, where its run would begin at `at`
+-- what a directory word denotes, if its run would begin at `at`
 unfoldable pub entry_of : ℕ → ℕ → Option DirectoryEntry
 entry_of at word = do
   e ← candidate word
   only_if (entry_word at e == word) (Some e)
 
--- a Long or a Double, which has a word of its own
+-- the number of a Long or a Double, which has a word of its own
 abbrev pub wide_from : (ℕ → ClassConstant) → List ℕ → List ℕ
     → Option (ClassConstant × List ℕ × List ℕ)
 wide_from make [] runs = None
@@ -131,7 +131,7 @@ constant_at total (word ∷ main) runs = do
   e ← entry_of (total - length runs) word
   constant_from e main runs
 
--- so many slots, the first of which may be the second of a wide constant
+-- this many slots, the first of which may be the second slot of a wide constant
 unfoldable pub slots_at : ℕ → Bool → ℕ → List ℕ → List ℕ → Option (List Slot × List ℕ × List ℕ)
 slots_at total true zero main runs = None
 slots_at total false zero main runs = Some ([], main, runs)
@@ -145,7 +145,7 @@ slots_at total false (suc n) main runs = do
 
 -- ---- interfaces, attributes and members
 
--- so many interfaces
+-- this many interfaces
 unfoldable pub interfaces_from : ℕ → List ℕ → Option (List ℕ × List ℕ)
 interfaces_from zero main = Some ([], main)
 interfaces_from (suc n) [] = None
@@ -165,7 +165,7 @@ attribute_at total (word ∷ at ∷ rest) runs =
       Some (record { name = first_of word; bytes = run.0 }, rest, run.1)))
 attribute_at total _ runs = None
 
--- so many attributes
+-- this many attributes
 unfoldable pub attributes_from : ℕ → ℕ → List ℕ → List ℕ → Option (List Attribute × List ℕ × List ℕ)
 attributes_from total zero attrs runs = Some ([], attrs, runs)
 attributes_from total (suc n) attrs runs = do
@@ -192,7 +192,7 @@ member_at total (word ∷ at ∷ main) attrs runs =
       )))
 member_at total _ attrs runs = None
 
--- so many members
+-- this many members
 unfoldable pub members_from : ℕ → ℕ → List ℕ → List ℕ → List ℕ → Option (List Member × List ℕ
     × List ℕ × List ℕ)
 members_from total zero main attrs runs = Some ([], main, attrs, runs)
@@ -207,43 +207,43 @@ members_from total (suc n) main attrs runs = do
 abbrev pub member_count : List ℕ → ℕ
 member_count words = second_of (head_counts words) + third_of (head_counts words)
 
--- the head and slot 0 are there, and the words are counted
+-- the head and slot 0 are there, and the head's total is the number of words
 abbrev pub is_counted : List ℕ → Bool
 is_counted words = nat_le 9 (length words) && head_total words == length words
 
--- the directory begins behind the head, with its slot 0
+-- the directory begins after the head, with its slot 0
 abbrev pub has_directory : List ℕ → Bool
 has_directory words =
     head_directory_at words == 8 && get_or words 8 0 == 0
     && nat_le 1 (first_of (head_counts words))
 
--- each next section begins where the one before it ends, as far as counts tell
+-- each next section begins where the one before it ends, as far as the counts determine it
 abbrev pub sections_follow : List ℕ → Bool
 sections_follow words =
     head_interfaces_at words == 8 + first_of (head_counts words)
     && head_members_at words == head_interfaces_at words + fourth_of (head_class words)
     && head_attributes_at words == head_members_at words + 2 * member_count words
 
--- the last sections begin within the words
+-- the last sections begin within the record
 abbrev pub sections_lie_within : List ℕ → Bool
 sections_lie_within words =
     nat_le (head_attributes_at words) (length words)
     && nat_le (head_runs_at words) (length words)
 
--- the numbers of classes, and where the sections begin, fit together
+-- the numbers in the first words, and where the sections begin, fit together
 abbrev pub head_is_right : List ℕ → Bool
 head_is_right words =
     is_counted words && has_directory words && sections_follow words
     && sections_lie_within words
 
--- each section ended where the next began
+-- each section ended where the next begins
 abbrev pub sections_end : List ℕ → List ℕ → List ℕ → List ℕ → Bool
 sections_end words main attrs runs =
     length main + head_attributes_at words == length words
     && length attrs + head_runs_at words == length words
     && length runs == 0
 
--- the slots of the pool and the interfaces, and what is left behind them
+-- the slots of the pool and the interfaces, and what is left after them
 unfoldable pub pool_from : ℕ → ℕ → ℕ → List ℕ → List ℕ → Option (List Slot × List ℕ × List ℕ
     × List ℕ)
 pool_from total count interfaces main runs = do
@@ -251,7 +251,7 @@ pool_from total count interfaces main runs = do
   those ← interfaces_from interfaces slots.1
   Some (slots.0, those.0, those.1, slots.2)
 
--- the fields, the methods and the class's own attributes, and what is left behind them
+-- the fields, the methods and the class's own attributes, and what is left after them
 unfoldable pub body_from : ℕ → ℕ → ℕ → ℕ → List ℕ → List ℕ → List ℕ → Option (List Member
     × List Member × List Attribute × List ℕ × List ℕ × List ℕ)
 body_from total fields methods own main attrs runs = do
@@ -260,13 +260,13 @@ body_from total fields methods own main attrs runs = do
   a ← attributes_from total own m.2 m.3
   Some (f.0, m.0, a.0, m.1, a.1, a.2)
 
--- the pool and the interfaces, from where the head says that they are
+-- the pool and the interfaces, read from where the head says that they are
 abbrev pub pool_of : List ℕ → Option (List Slot × List ℕ × List ℕ × List ℕ)
 pool_of words =
     pool_from (length words) (first_of (head_counts words) - 1) (fourth_of (head_class words))
     (drop 9 words) (drop (head_runs_at words) words)
 
--- what stands behind them, from what they leave
+-- the body after them, read from what they leave
 abbrev pub body_of : List ℕ → List ℕ → List ℕ → Option (List Member × List Member
     × List Attribute × List ℕ × List ℕ × List ℕ)
 body_of words main runs =
@@ -289,17 +289,17 @@ class_at words = only_if (head_is_right words) (do
     attributes = body.2;
   })))
 
--- ---- what was read before what is left is read
+-- ---- what was read earlier, before the result of reading the remaining words
 
 abbrev pub with_front : {A B : Type 0} → List A → Option (List A × B) → Option (List A × B)
 with_front front None = None
 with_front front (Some read) = Some (front ++ read.0, read.1)
 
--- ---- what a buffer holds once what is read is spelled behind what it held
+-- ---- what a buffer holds once the spelling of what is read is appended to it
 
-abbrev pub behind : {A B : Type 0} → List ℕ → (A → List ℕ) → Option (A × B) → Option (List ℕ × B)
-behind front spelled None = None
-behind front spelled (Some read) = Some (front ++ spelled read.0, read.1)
+abbrev pub appended : {A B : Type 0} → List ℕ → (A → List ℕ) → Option (A × B) → Option (List ℕ × B)
+appended front spelled None = None
+appended front spelled (Some read) = Some (front ++ spelled read.0, read.1)
 
 abbrev pub behind3 : {A B C : Type 0} → List ℕ → (A → List ℕ) → Option (A × B × C)
     → Option (List ℕ × B × C)
@@ -314,18 +314,19 @@ behind4 front spelled (Some read) = Some (front ++ spelled read.0, read.1, read.
 abbrev pub utf8_bytes : List ℕ → List ℕ
 utf8_bytes bytes = constant_bytes (constant.Utf8 bytes)
 
--- of a constant, and whether it is wide
+-- the same for a constant, and whether it is wide
 abbrev pub constant_behind : List ℕ → Option (ClassConstant × List ℕ × List ℕ)
     → Option (List ℕ × Bool × List ℕ × List ℕ)
 constant_behind front None = None
 constant_behind front (Some read) =
     Some (front ++ constant_bytes read.0, is_wide read.0, read.1, read.2)
 
--- an attribute of this name
+-- the bytes of an attribute of this name
 abbrev pub content_bytes : ℕ → List ℕ → List ℕ
 content_bytes name bytes = attribute_bytes (record { name = name; bytes = bytes })
 
--- a class file up to its interfaces, the numbers among them from the head of a record
+-- the bytes of a class file up to its interfaces; the numbers before them are from the head of a
+-- record
 abbrev pub pool_bytes : List ℕ → List Slot → List ℕ → List ℕ
 pool_bytes words slots interfaces =
     heading ++ u2 (length slots + 1) ++ flat_map slot_bytes slots
@@ -354,7 +355,7 @@ abbrev pub class_behind : List ℕ → Option ClassFile → Option (List ℕ)
 class_behind front None = None
 class_behind front (Some c) = Some (front ++ spell c)
 
--- ---- what is left, where nothing is kept of what is read
+-- ---- what is left, if nothing is kept of what is read
 
 abbrev pub left1 : {A B : Type 0} → Option (A × B) → Option B
 left1 None = None
@@ -368,7 +369,7 @@ abbrev pub left3 : {A B C D : Type 0} → Option (A × B × C × D) → Option (
 left3 None = None
 left3 (Some read) = Some (read.1, read.2, read.3)
 
--- what is left behind a pool, and behind a body
+-- what is left after a pool, and after a body
 abbrev pub pool_left : Option (List Slot × List ℕ × List ℕ × List ℕ) → Option (List ℕ × List ℕ)
 pool_left None = None
 pool_left (Some read) = Some (read.2, read.3)
@@ -384,6 +385,6 @@ width_left None = None
 width_left (Some read) = Some (is_wide read.0, read.1, read.2)
 
 -- What a function returned, seen by view, is what is left.
-abbrev pub Leaves : {X Y : Type 0} → (X → Y) → Option X → Option Y → Type 0
-Leaves view (Some x) left = left ≡ Some (view x)
-Leaves view None left = left ≡ None
+abbrev pub LeavesRest : {X Y : Type 0} → (X → Y) → Option X → Option Y → Type 0
+LeavesRest view (Some x) left = left ≡ Some (view x)
+LeavesRest view None left = left ≡ None

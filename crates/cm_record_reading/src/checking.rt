@@ -1,7 +1,9 @@
-//! Telling whether words are a record, without memory: the walk of `spelling`, which keeps nothing.
+//! Checking whether words are a record, without allocating: the walk of `spelling`, but keeping
+//! nothing.
 ghost use Rattle.std.specs.Prelude.{◌≡◌, ◌≤◌, length, false, ◌↔◌, IfSome, IsTrue, is_some};
 ghost use Rattle.cm_record_layout.specs.Layout.{limit, IsRecord};
-ghost use Rattle.cm_record_reading.specs.Reading.{Leaves, left1, left2, left3, width_left, run_at};
+ghost use Rattle.cm_record_reading.specs.Reading.{LeavesRest, left1, left2, left3, width_left};
+ghost use Rattle.cm_record_reading.specs.Reading.{run_at};
 ghost use Rattle.cm_record_reading.specs.Reading.{constant_at, slots_at, interfaces_from};
 ghost use Rattle.cm_record_reading.specs.Reading.{attribute_at, attributes_from, member_at};
 ghost use Rattle.cm_record_reading.specs.Reading.{members_from, pool_from, pool_left, body_from};
@@ -14,10 +16,10 @@ use cm_record_layout::{
     bytes_of, first, fourth, second, third, upper, word_of, words_from,
 };
 
-/// The words behind a run of so many bytes. Whole words may be any: only the last one is looked at,
-/// where the run doesn't fill it.
+/// The words after a run of `count` bytes. Whole words may be any: only the last one is looked at,
+/// if the run doesn't fill it.
 fn skip_run(count: usize, words: &[u64]) -> Option<&[u64]>
-    ensures left { Leaves (λ x. x.now) result (left1 (run_at count words.now)) }
+    ensures left { LeavesRest (λ x. x.now) result (left1 (run_at count words.now)) }
     ensures suffix { IfSome result (λ x. length x.now ≤ length words.now) }
 {
     let rest = words.get(count / 8..)?;
@@ -35,7 +37,7 @@ fn skip_run(count: usize, words: &[u64]) -> Option<&[u64]>
     Some(behind)
 }
 
-/// Whether a constant is wide, and what is left behind it.
+/// Whether a constant is wide, and what is left after it.
 #[tactic(auto, unfolding(crate::specs::Reading::constant_at))]
 fn skip_constant<'a, 'b>(
     total: usize,
@@ -44,7 +46,7 @@ fn skip_constant<'a, 'b>(
 ) -> Option<(bool, &'a [u64], &'b [u64])>
     requires short { total ≤ limit }
     requires suffix { length runs.now ≤ total }
-    ensures left { Leaves
+    ensures left { LeavesRest
         (λ x. (x.0, x.1.now, x.2.now)) result (width_left (constant_at total main.now runs.now)) }
     ensures suffix { IfSome result (λ x. length x.2.now ≤ length runs.now) }
 {
@@ -77,7 +79,7 @@ fn skip_constant<'a, 'b>(
     }
 }
 
-/// What is left behind so many slots.
+/// What is left after `count` slots.
 fn skip_slots<'a, 'b>(
     total: usize,
     count: usize,
@@ -86,7 +88,7 @@ fn skip_slots<'a, 'b>(
 ) -> Option<(&'a [u64], &'b [u64])>
     requires short { total ≤ limit }
     requires suffix { length runs.now ≤ total }
-    ensures left { Leaves
+    ensures left { LeavesRest
         (λ x. (x.0.now, x.1.now)) result (left2 (slots_at total false count main.now runs.now)) }
     ensures suffix { IfSome result (λ x. length x.1.now ≤ length runs.now) }
 {
@@ -108,9 +110,9 @@ fn skip_slots<'a, 'b>(
     Some((main, runs))
 }
 
-/// What is left behind so many interfaces.
+/// What is left after `count` interfaces.
 fn skip_interfaces(count: usize, words: &[u64]) -> Option<&[u64]>
-    ensures { Leaves (λ x. x.now) result (left1 (interfaces_from count words.now)) }
+    ensures { LeavesRest (λ x. x.now) result (left1 (interfaces_from count words.now)) }
 {
     let mut rest = words;
     for _ in 0..count {
@@ -125,7 +127,7 @@ fn skip_interfaces(count: usize, words: &[u64]) -> Option<&[u64]>
     Some(rest)
 }
 
-/// What is left behind an attribute.
+/// What is left after an attribute.
 #[tactic(auto, unfolding(crate::specs::Reading::attribute_at))]
 fn skip_attribute<'a, 'b>(
     total: usize,
@@ -133,7 +135,7 @@ fn skip_attribute<'a, 'b>(
     runs: &'b [u64],
 ) -> Option<(&'a [u64], &'b [u64])>
     requires { length runs.now ≤ total }
-    ensures left { Leaves
+    ensures left { LeavesRest
         (λ x. (x.0.now, x.1.now)) result (left2 (attribute_at total attributes.now runs.now)) }
     ensures suffixes { IfSome result (λ x. (length x.0.now ≤ length attributes.now)
         × (length x.1.now ≤ length runs.now)) }
@@ -149,7 +151,7 @@ fn skip_attribute<'a, 'b>(
     Some((behind, runs))
 }
 
-/// What is left behind so many attributes.
+/// What is left after `count` attributes.
 fn skip_attributes<'a, 'b>(
     total: usize,
     count: usize,
@@ -157,7 +159,7 @@ fn skip_attributes<'a, 'b>(
     runs: &'b [u64],
 ) -> Option<(&'a [u64], &'b [u64])>
     requires { length runs.now ≤ total }
-    ensures left { Leaves
+    ensures left { LeavesRest
         (λ x. (x.0.now, x.1.now)) result
         (left2 (attributes_from total count attributes.now runs.now)) }
     ensures suffixes { IfSome result (λ x. (length x.0.now ≤ length attributes.now)
@@ -172,7 +174,7 @@ fn skip_attributes<'a, 'b>(
     Some((attributes, runs))
 }
 
-/// What is left behind a member.
+/// What is left after a member.
 #[tactic(auto, using(cm_record_layout::proofs::four_numbers_test), unfolding(crate::specs::Reading::member_at))]
 fn skip_member<'a, 'b, 'c>(
     total: usize,
@@ -182,7 +184,7 @@ fn skip_member<'a, 'b, 'c>(
 ) -> Option<(&'a [u64], &'b [u64], &'c [u64])>
     requires attributes { length attributes.now ≤ total }
     requires runs { length runs.now ≤ total }
-    ensures left { Leaves
+    ensures left { LeavesRest
         (λ x. (x.0.now, x.1.now, x.2.now)) result
         (left3 (member_at total main.now attributes.now runs.now)) }
     ensures suffixes { IfSome result (λ x. (length x.1.now ≤ length attributes.now)
@@ -199,7 +201,7 @@ fn skip_member<'a, 'b, 'c>(
     Some((behind, attributes, runs))
 }
 
-/// What is left behind so many members.
+/// What is left after `count` members.
 fn skip_members<'a, 'b, 'c>(
     total: usize,
     count: usize,
@@ -209,7 +211,7 @@ fn skip_members<'a, 'b, 'c>(
 ) -> Option<(&'a [u64], &'b [u64], &'c [u64])>
     requires attributes { length attributes.now ≤ total }
     requires runs { length runs.now ≤ total }
-    ensures left { Leaves
+    ensures left { LeavesRest
         (λ x. (x.0.now, x.1.now, x.2.now)) result
         (left3 (members_from total count main.now attributes.now runs.now)) }
     ensures suffixes { IfSome result (λ x. (length x.1.now ≤ length attributes.now)
@@ -225,7 +227,7 @@ fn skip_members<'a, 'b, 'c>(
     Some((main, attributes, runs))
 }
 
-/// What is left behind the slots of the pool and the interfaces.
+/// What is left after the slots of the pool and the interfaces.
 #[tactic(auto, unfolding(crate::specs::Reading::pool_from))]
 fn skip_pool<'a, 'b>(
     total: usize,
@@ -236,7 +238,7 @@ fn skip_pool<'a, 'b>(
 ) -> Option<(&'a [u64], &'b [u64])>
     requires short { total ≤ limit }
     requires suffix { length runs.now ≤ total }
-    ensures left { Leaves (λ x. (x.0.now, x.1.now)) result
+    ensures left { LeavesRest (λ x. (x.0.now, x.1.now)) result
         (pool_left (pool_from total count interfaces main.now runs.now)) }
     ensures suffix { IfSome result (λ x. length x.1.now ≤ length runs.now) }
 {
@@ -245,7 +247,7 @@ fn skip_pool<'a, 'b>(
     Some((main, runs))
 }
 
-/// What is left behind so many fields, methods and attributes of the class.
+/// What is left after the fields, methods and attributes of the class, as many as `counts` says.
 #[tactic(auto, unfolding(crate::specs::Reading::body_from))]
 fn skip_body<'a, 'b, 'c>(
     total: usize,
@@ -256,7 +258,7 @@ fn skip_body<'a, 'b, 'c>(
 ) -> Option<(&'a [u64], &'b [u64], &'c [u64])>
     requires attributes { length attributes.now ≤ total }
     requires runs { length runs.now ≤ total }
-    ensures { Leaves (λ x. (x.0.now, x.1.now, x.2.now)) result
+    ensures { LeavesRest (λ x. (x.0.now, x.1.now, x.2.now)) result
         (body_left (body_from total counts.fields counts.methods counts.attributes main.now
         attributes.now runs.now)) }
 {
@@ -283,7 +285,7 @@ fn skip_body<'a, 'b, 'c>(
     Some((main, attributes, runs))
 }
 
-/// Nothing, where each section is there and ends where the next begins.
+/// `Some` if each section is there and ends where the next begins.
 #[tactic(auto, unfolding(crate::specs::Reading::class_at))]
 fn sections_fit(words: &[u64]) -> Option<()>
     requires { length words.now ≤ limit }

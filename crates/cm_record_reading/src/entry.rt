@@ -11,8 +11,8 @@ ghost use Rattle.cm_record_reading.specs.Reading.{attribute_word as attribute_wo
 use cm_class::{Bytes, Constant, Kind};
 use cm_record_layout::{SECOND, THIRD, first, fourth, second, third, upper, whole_word};
 
-/// What a word of the directory stands for: a Utf8 with its length, the beginning of a wide
-/// constant, or a whole constant.
+/// What a word of the directory denotes: a Utf8 with its length, the beginning of a wide constant,
+/// or a whole constant.
 #[derive(Debug, Drop)]
 pub(crate) enum DirectoryEntry<'a> {
     Utf8(u16),
@@ -21,7 +21,7 @@ pub(crate) enum DirectoryEntry<'a> {
     Whole(Constant<Bytes<'a>>),
 }
 
-/// What a word of this kind stands for.
+/// What a word of this kind denotes.
 fn entry_of_kind<'a>(kind: Kind, word: u64) -> DirectoryEntry<'a>
     ensures { result ≡ entry_of_kind_of kind word }
 {
@@ -63,7 +63,7 @@ fn entry_of_kind<'a>(kind: Kind, word: u64) -> DirectoryEntry<'a>
     DirectoryEntry::Whole(whole)
 }
 
-/// What a word may stand for, by its tag.
+/// What a word may denote, by its tag.
 #[tactic(auto, unfolding(crate::specs::Reading::candidate))]
 fn candidate<'a>(word: u64) -> Option<DirectoryEntry<'a>>
     ensures { result ≡ candidate_of word }
@@ -87,7 +87,7 @@ fn entry_word(at: u64, entry: &DirectoryEntry) -> u64
     }
 }
 
-/// What a word of the directory stands for, where its run would begin at `at`.
+/// What a word of the directory denotes, if its run would begin at `at`.
 #[tactic(auto, unfolding(crate::specs::Reading::entry_of))]
 pub(crate) fn entry_at<'a>(at: u64, word: u64) -> Option<DirectoryEntry<'a>>
     requires { at ≤ limit }

@@ -5,7 +5,7 @@ ghost use Rattle.cm_record_reading.specs.declared.fault.RecordFault.TheVariants 
 use std::alloc::{AllocError, AllocFailed};
 use thiserror::Error;
 
-/// Why words are taken for no record.
+/// Why words are not accepted as a record.
 #[derive(Clone, Copy, Debug, PartialEq, Eq, Error)]
 pub enum RecordFault {
     /// No class has these words as its layout, or there are more than 524,288 of them.

@@ -1,5 +1,5 @@
 //! Which words are the record of a class, and of which: spelled into a buffer, and checked without
-//! memory.
+//! allocating.
 #![tactic(auto)]
 
 mod checking;

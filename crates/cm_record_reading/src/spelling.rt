@@ -1,6 +1,6 @@
 //! Spelling a class from the words of a record, part by part and in the class file's order. Each
-//! function reads from slices that end where the record ends, so what is left of one says where in
-//! the record it begins, and puts the bytes of what it read behind those in a buffer.
+//! function reads from slices that end where the record ends, so the length of what it leaves says
+//! where in the record that begins. It appends the bytes of what it read to a buffer.
 ghost use Rattle.std.specs.Prelude.{◌≡◌, ◌++◌, ◌≤◌, length, false, IfOk, OnOk};
 ghost use Rattle.std.specs.List.{flat_map};
 ghost use Rattle.cm_class.specs.declared.constant.Constant.TheVariants as constants;
@@ -14,7 +14,7 @@ ghost use Rattle.cm_record_layout.specs.Packing.{word_bytes};
 ghost use Rattle.cm_record_reading.specs.Reading.{Gives, run_at, constant_at, slots_at, with_front};
 ghost use Rattle.cm_record_reading.specs.Reading.{interfaces_from, attribute_at, attributes_from};
 ghost use Rattle.cm_record_reading.specs.Reading.{member_at, members_from};
-ghost use Rattle.cm_record_reading.specs.Reading.{behind, behind3, behind4};
+ghost use Rattle.cm_record_reading.specs.Reading.{appended, behind3, behind4};
 ghost use Rattle.cm_record_reading.specs.Reading.{constant_behind, utf8_bytes, content_bytes};
 
 use crate::entry::{DirectoryEntry, attribute_word, entry_at};
@@ -23,14 +23,14 @@ use cm_class::{Bytes, Constant, Kind};
 use cm_record_layout::{SECOND, bytes_of, first, fourth, second, third, upper, word_of};
 use std::alloc::{AllocError, Global};
 
-/// How many bytes there is to be room for: no more than the words hold, whatever the count says.
+/// How many bytes to make room for: no more than the words hold, whatever the count says.
 fn bytes_within(count: usize, words: &[u64]) -> usize
     ensures { result ≤ count }
 {
     count.min(words.len().saturating_mul(8))
 }
 
-/// A run of so many bytes, and the words behind it.
+/// A run of `count` bytes, and the words after it.
 pub fn read_run<'a>(
     alloc: Global,
     count: usize,
@@ -44,7 +44,7 @@ pub fn read_run<'a>(
     Ok((bytes, rest))
 }
 
-/// The words behind a run of so many bytes, which are put into the buffer.
+/// The words after a run of `count` bytes, which are appended to the buffer.
 fn spell_run<'a>(
     count: usize,
     words: &'a [u64],
@@ -63,7 +63,7 @@ fn spell_run<'a>(
     if left == 0 {
         return Ok(rest);
     }
-    let [word, behind @ ..] = rest else {
+    let [word, following @ ..] = rest else {
         return Err(RecordFault::NotARecord);
     };
     let eight = bytes_of(*word);
@@ -71,7 +71,7 @@ fn spell_run<'a>(
         return Err(RecordFault::NotARecord);
     }
     out.extend_from_slice(&eight[..left])?;
-    Ok(behind)
+    Ok(following)
 }
 
 /// Puts the bytes of words into the buffer.
@@ -190,10 +190,10 @@ fn put_constant(constant: &Constant<Bytes>, out: &mut Vec<u8>) -> Result<(), All
     }
 }
 
-/// A Utf8 of so many bytes, from the runs.
+/// A Utf8 of `count` bytes, from the runs.
 fn spell_utf8<'a>(count: u16, runs: &'a [u64], out: &mut Vec<u8>) -> Result<&'a [u64], RecordFault>
     ensures read { Gives (λ x. (out.new.items, x.now)) result
-        (behind out.old.items utf8_bytes (run_at count runs.now)) }
+        (appended out.old.items utf8_bytes (run_at count runs.now)) }
     ensures suffix { IfOk result (λ x. length x.now ≤ length runs.now) }
 {
     put_index(Kind::Utf8, count, out)?;
@@ -201,7 +201,7 @@ fn spell_utf8<'a>(count: u16, runs: &'a [u64], out: &mut Vec<u8>) -> Result<&'a 
     Ok(rest)
 }
 
-/// A constant, from the directory and the runs, in a record of so many words; whether it is wide,
+/// A constant, from the directory and the runs, in a record of `total` words; whether it is wide,
 /// and what is left.
 #[tactic(auto, unfolding(crate::specs::Reading::constant_at))]
 fn spell_constant<'a, 'b>(
@@ -246,7 +246,7 @@ fn spell_constant<'a, 'b>(
     }
 }
 
-/// So many slots of the constant pool, and what is left behind them.
+/// `count` slots of the constant pool, and what is left after them.
 pub(crate) fn spell_slots<'a, 'b>(
     total: usize,
     count: usize,
@@ -279,31 +279,31 @@ pub(crate) fn spell_slots<'a, 'b>(
     Ok((main, runs))
 }
 
-/// So many interfaces, and what is left behind them.
+/// `count` interfaces, and what is left after them.
 pub(crate) fn spell_interfaces<'a>(
     count: u16,
     words: &'a [u64],
     out: &mut Vec<u8>,
 ) -> Result<&'a [u64], RecordFault>
     ensures { Gives (λ x. (out.new.items, x.now)) result
-        (behind out.old.items (counted u2) (interfaces_from count words.now)) }
+        (appended out.old.items (counted u2) (interfaces_from count words.now)) }
 {
     put_u16(count, out)?;
     let mut rest = words;
     for _ in 0..count {
-        let [word, behind @ ..] = rest else {
+        let [word, following @ ..] = rest else {
             return Err(RecordFault::NotARecord);
         };
         if *word >= SECOND {
             return Err(RecordFault::NotARecord);
         }
         put_u16(*word as u16, out)?;
-        rest = behind;
+        rest = following;
     }
     Ok(rest)
 }
 
-/// An attribute of this name whose content has so many bytes, from the runs.
+/// An attribute of this name with a content of `count` bytes, from the runs.
 fn spell_content<'a>(
     name: u16,
     count: u32,
@@ -311,7 +311,7 @@ fn spell_content<'a>(
     out: &mut Vec<u8>,
 ) -> Result<&'a [u64], RecordFault>
     ensures read { Gives (λ x. (out.new.items, x.now)) result
-        (behind out.old.items (content_bytes name) (run_at count runs.now)) }
+        (appended out.old.items (content_bytes name) (run_at count runs.now)) }
     ensures suffix { IfOk result (λ x. length x.now ≤ length runs.now) }
 {
     put_u16(name, out)?;
@@ -320,7 +320,7 @@ fn spell_content<'a>(
     Ok(rest)
 }
 
-/// An attribute, from the attributes and the runs, and what is left behind it.
+/// An attribute, from the attributes and the runs, and what is left after it.
 #[tactic(auto, unfolding(crate::specs::Reading::attribute_at))]
 fn spell_attribute<'a, 'b>(
     total: usize,
@@ -334,7 +334,7 @@ fn spell_attribute<'a, 'b>(
     ensures suffixes { IfOk result (λ x. (length x.0.now ≤ length attributes.now)
         × (length x.1.now ≤ length runs.now)) }
 {
-    let [word, at, behind @ ..] = attributes else {
+    let [word, at, following @ ..] = attributes else {
         return Err(RecordFault::NotARecord);
     };
     let (name, count) = (first(*word), upper(*word));
@@ -342,10 +342,10 @@ fn spell_attribute<'a, 'b>(
         return Err(RecordFault::NotARecord);
     }
     let runs = spell_content(name, count, runs, out)?;
-    Ok((behind, runs))
+    Ok((following, runs))
 }
 
-/// So many attributes, and what is left behind them.
+/// `count` attributes, and what is left after them.
 pub(crate) fn spell_attributes<'a, 'b>(
     total: usize,
     count: u16,
@@ -363,14 +363,14 @@ pub(crate) fn spell_attributes<'a, 'b>(
     put_u16(count, out)?;
     let (mut attributes, mut runs) = (attributes, runs);
     for _ in 0..count {
-        let (behind, runs_behind) = spell_attribute(total, attributes, runs, out)?;
-        attributes = behind;
+        let (following, runs_behind) = spell_attribute(total, attributes, runs, out)?;
+        attributes = following;
         runs = runs_behind;
     }
     Ok((attributes, runs))
 }
 
-/// A member, from the members, the attributes and the runs, and what is left behind it.
+/// A member, from the members, the attributes and the runs, and what is left after it.
 #[tactic(auto, using(cm_record_layout::proofs::four_numbers_test), unfolding(crate::specs::Reading::member_at))]
 fn spell_member<'a, 'b, 'c>(
     total: usize,
@@ -387,7 +387,7 @@ fn spell_member<'a, 'b, 'c>(
     ensures suffixes { IfOk result (λ x. (length x.1.now ≤ length attributes.now)
         × (length x.2.now ≤ length runs.now)) }
 {
-    let [word, at, behind @ ..] = main else {
+    let [word, at, following @ ..] = main else {
         return Err(RecordFault::NotARecord);
     };
     if *at != (total - attributes.len()) as u64 {
@@ -397,10 +397,10 @@ fn spell_member<'a, 'b, 'c>(
     put_u16(second(*word), out)?;
     put_u16(third(*word), out)?;
     let (attributes, runs) = spell_attributes(total, fourth(*word), attributes, runs, out)?;
-    Ok((behind, attributes, runs))
+    Ok((following, attributes, runs))
 }
 
-/// So many members, and what is left behind them.
+/// `count` members, and what is left after them.
 pub(crate) fn spell_members<'a, 'b, 'c>(
     total: usize,
     count: u16,
@@ -420,10 +420,10 @@ pub(crate) fn spell_members<'a, 'b, 'c>(
     put_u16(count, out)?;
     let (mut main, mut attributes, mut runs) = (main, attributes, runs);
     for _ in 0..count {
-        let (behind, attributes_behind, runs_behind) = spell_member(
+        let (following, attributes_behind, runs_behind) = spell_member(
             total, main, attributes, runs, out,
         )?;
-        main = behind;
+        main = following;
         attributes = attributes_behind;
         runs = runs_behind;
     }

@@ -22,7 +22,7 @@ use cm_record_layout::{
     second, third, words_from,
 };
 
-/// The head and slot 0 are there, and the words are counted.
+/// The head and slot 0 are there, and the head's total is the number of words.
 fn is_counted(words: &[u64]) -> bool
     ensures test { result ≡ is_counted_of words.now }
     ensures long { IsTrue result → 9 ≤ length words.now }
@@ -30,7 +30,7 @@ fn is_counted(words: &[u64]) -> bool
     words.len() >= SLOT_1_AT && words[HEAD_TOTAL] == words.len() as u64
 }
 
-/// The directory begins behind the head, with its slot 0.
+/// The directory begins after the head, with its slot 0.
 fn has_directory(words: &[u64]) -> bool
     requires { 9 ≤ length words.now }
     ensures test { result ≡ has_directory_of words.now }
@@ -41,7 +41,7 @@ fn has_directory(words: &[u64]) -> bool
         && first(words[HEAD_COUNTS]) >= 1
 }
 
-/// Each next section begins where the one before it ends, as far as counts tell.
+/// Each next section begins where the one before it ends, as far as the counts determine it.
 fn sections_follow(words: &[u64]) -> bool
     requires { 9 ≤ length words.now }
     ensures { result ≡ sections_follow_of words.now }
@@ -116,8 +116,8 @@ pub(crate) fn sections_end(words: &[u64], main: &[u64], attributes: &[u64], runs
         && runs.is_empty()
 }
 
-/// The heading, the pool, the flags, the two classes and the interfaces, and what is left behind
-/// the interfaces and behind the pool's runs.
+/// The heading, the pool, the flags, the two classes and the interfaces, and what is left after the
+/// interfaces and after the pool's runs.
 fn spell_pool<'a>(
     words: &'a [u64],
     out: &mut Vec<u8>,
@@ -143,7 +143,8 @@ fn spell_pool<'a>(
     Ok((main, runs))
 }
 
-/// So many fields, methods and attributes of the class, and what is left behind each section.
+/// The fields, methods and attributes of the class, as many as `counts` says, and what is left
+/// after each section.
 fn spell_body<'a, 'b, 'c>(
     total: usize,
     counts: Counts,
@@ -178,7 +179,7 @@ fn spell_body<'a, 'b, 'c>(
     Ok((main, attributes, runs))
 }
 
-/// Puts the spelling of the class whose layout the words are behind what the buffer holds.
+/// Appends to the buffer the spelling of the class that has these words as its layout.
 fn spell_words(words: &[u64], out: &mut Vec<u8>) -> Result<(), RecordFault>
     requires { length words.now ≤ limit }
     ensures { Gives (λ _. out.new.items) result (class_behind out.old.items (class_at words.now)) }
@@ -196,9 +197,9 @@ fn spell_words(words: &[u64], out: &mut Vec<u8>) -> Result<(), RecordFault>
     Ok(())
 }
 
-/// Makes the buffer hold the spelling of the class that has these words as its record, and no more.
-/// `NotARecord` comes only where no class has, `NoMemory` only where an allocation failed; what the
-/// buffer holds then isn't told.
+/// Replaces the buffer's content with the spelling of the class that has these words as its record.
+/// Returns `NotARecord` only if there is no such class, and `NoMemory` only if an allocation
+/// failed; what the buffer holds after an error is unspecified.
 pub fn spell_class(words: &[u64], out: &mut Vec<u8>) -> Result<(), RecordFault>
     requires { length words.now ≤ limit }
     ensures ok { IfOk result (λ _. (c : ClassFile) × IsRecordOf c words.now

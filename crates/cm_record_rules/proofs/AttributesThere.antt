@@ -16,7 +16,7 @@ use Rattle.cm_record_layout.proofs.{attributes_append, attribute_runs_append, at
 use Rattle.cm_record_rules.specs.Laid.{attributes_in, members_in}
 use Rattle.cm_record_rules.proofs.RunBytes.{run_there}
 
--- behind a front of some length
+-- the list after a front of some length
 pub behind_front : (words front rest : List ℕ) (at : ℕ) → drop at words ≡ front ++ rest
     → drop (at + length front) words ≡ rest
 behind_front words front rest at there =
@@ -24,7 +24,7 @@ behind_front words front rest at there =
     ∙ (ap (drop (length front)) there ∙ drop_at front rest (length front) refl)
 
 module _ (words : List ℕ) where
-  -- attributes whose runs stand at `at`
+  -- attributes whose runs begin at `at`
   pub attributes_read : (at : ℕ) (those : List Attribute) (tail rest : List ℕ)
       → AllByRecursion AttributeFits those
       → drop at words ≡ attribute_runs those ++ rest
@@ -42,7 +42,7 @@ module _ (words : List ℕ) where
       let others = attributes_read (at + length (attribute_run a)) those tail rest fit.1 next in
       rw (name, size, bytes, others) refl
 
-  -- members whose attributes stand at `at`, the runs of these at `runs`
+  -- members whose attributes begin at `at`, and the runs of these at `runs`
   pub members_read : (at runs : ℕ) (those : List Member) (tail rest behind : List ℕ)
       → AllByRecursion MemberFits those
       → drop at words ≡ attributes runs (member_attributes those) ++ rest

@@ -77,10 +77,10 @@ of_words bytes at (constant.MethodType descriptor) rest fits small ran =
 of_words bytes at (constant.InvokeDynamic a b) rest fits small ran = let p =
     two_indexes 18 a b (omega arith) fits.0 fits.1 in λ i. constant.InvokeDynamic (p.0 i) (p.1 i)
 
--- ---- where the words of a slot stand
+-- ---- where the words of a slot are
 
--- the words of a usable slot begin at its place, and its run begins behind those of the slots
--- before it
+-- the words of a usable slot begin at its place, and its run begins after those of the slots before
+-- it
 slot_words : (second : Bool) (bits at : ℕ) (slots : List Slot) (tail : List ℕ) (i : ℕ)
     (d : ClassConstant) → SlotsFit second slots → slice_get slots i ≡ Some (Usable d)
     → (rest : List ℕ)

@@ -1,4 +1,4 @@
--- The scratch of a judge, filled one after another.
+-- Filling the scratch step by step.
 -- For `copy_words`, `fill`, `write_tags`.
 use Rattle.std.proofs.Common.{◌≡◌, ◌<◌, ◌≤◌, ◌+◌, ◌%◌, ◌^◌, ℕ, Bool, true, false, List, [], ◌∷◌}
 use Rattle.std.proofs.Common.{◌++◌}
@@ -22,7 +22,7 @@ length-word_bytes (w ∷ words) =
       length-word_bytes words,
     )
 
--- one word more is written
+-- one more word is written
 pub write_step : (out start words : List ℕ) (i word : ℕ)
     → out ≡ word_bytes (take i words) ++ drop (8 * i) start → i < length words
     → word ≡ get_or words i 0
@@ -52,7 +52,7 @@ unfolding tags_from
 one_tag true word words = refl
 one_tag false word words = refl
 
--- one tag more
+-- one more tag
 pub tags_more : (done : List ℕ) (second : Bool) (words : List ℕ) (i tag : ℕ) → i < length words
     → tag ≡ cond second 0 (get_or words i 0 % 2 ^ 8)
     → done ++ tags_from second (drop i words)

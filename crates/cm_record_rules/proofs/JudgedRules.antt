@@ -1,4 +1,4 @@
--- A class whose parts are seen to keep all rules has no fault.
+-- A class whose parts are found to keep all rules has no fault.
 -- For `keeps_rules`, `judge_words`.
 use Rattle.std.proofs.Common.{◌≡◌, Bool, true, List, [], ◌∷◌, None, refl, sym, ◌∙◌}
 use Rattle.std.specs.Prelude.{◌&&◌}

@@ -5,8 +5,8 @@ use Rattle.std.proofs.Common.{Option, Some, None, refl, sym, ◌∙◌, ap, inl,
 use Rattle.std.specs.Prelude.{IfSome}
 use Rattle.cm_class.specs.declared.class_file.ClassFile.{ClassFile}
 use Rattle.cm_class.specs.Names.{utf8}
-use Rattle.cm_names.specs.declared.judgement.Judgement.{Judgement}
-use Rattle.cm_names.specs.Judgement.{judgement}
+use Rattle.cm_descriptors.specs.declared.judgement.Judgement.{Judgement}
+use Rattle.cm_descriptors.specs.Judgement.{judgement}
 use Rattle.cm_record_rules.specs.Judged.{AreJudged}
 
 pub none_judged : (c : ClassFile) → AreJudged c []
@@ -32,7 +32,7 @@ last_or (z ∷ items) x y (suc i) e = elim (last_or items x y i e) [
   | inr here ↦ inr (ap suc here.0, here.1)
 ]
 
--- one Utf8 more
+-- one more Utf8
 pub judged_more : (c : ClassFile) (table : List Judgement) (n : ℕ) (found : Judgement)
     → AreJudged c table → length table ≡ n → found ≡ judgement (utf8 c n)
     → AreJudged c (table ++ found ∷ [])

@@ -24,7 +24,7 @@ use Rattle.cm_rules.specs.Kept.{later_rules, constant_keeps, this_keeps, super_k
 use Rattle.cm_rules.specs.Kept.{interface_keeps, field_keeps, method_keeps, attribute_keeps}
 use Rattle.cm_record_rules.proofs.Searches.{broken_is}
 
--- both hold where one test of both does
+-- if a test of both holds, both hold
 pub left : (a b : Bool) → (a && b) ≡ true → a ≡ true
 left true b e = refl
 left false b e = e
@@ -37,7 +37,7 @@ pub both : (a b : Bool) → a ≡ true → b ≡ true → (a && b) ≡ true
 both true b e f = f
 both false b e f = e
 
--- the same of what is asked of a field, with one test more
+-- the same for the tests of a field, with one more test
 four : (a b f t o : Bool) → (a && (b && (f && t))) ≡ true → o ≡ true
     → (a && (b && (f && (o && (t && true))))) ≡ true
 four true true true true true e h = refl
@@ -47,7 +47,7 @@ four true true false t o e h = absurd cc
 four true false f t o e h = absurd cc
 four false b f t o e h = absurd cc
 
--- and of a method
+-- the same for the tests of a method
 seven : (a b u f n g t o : Bool) → (a && (b && (u && (f && (n && (g && t)))))) ≡ true → o ≡ true
     → (a && (b && (u && (f && (o && (n && (g && (t && true)))))))) ≡ true
 seven true true true true true true true true e h = refl
@@ -63,7 +63,7 @@ seven false b u f n g t o e h = absurd cc
 -- ---- lists none of whose items fails
 
 module _ {A : Type 0} where
-  -- where a test passes another does, if no item fails the first, none fails the other
+  -- if items that pass a test also pass another, and no item fails the first, none fails the other
   pub none_fails_too : (test other : ℕ → A → Bool)
       → ((i : ℕ) (x : A) → test i x ≡ true → other i x ≡ true) → (i : ℕ) (items : List A)
       → first_failing test i items ≡ None → first_failing other i items ≡ None
@@ -88,7 +88,7 @@ module _ {A : Type 0} where
       rw (left (test x) (list_all test items) e)
       (all_pass test (i + 1) items (right (test x) (list_all test items) e))
 
-  -- where both tests pass a third does, of which one may ask for the place
+  -- if both tests pass, a third does; one of them may depend on the place
   pub both_pass : (test : A → Bool) (placed whole : ℕ → A → Bool)
       → ((i : ℕ) (x : A) → test x ≡ true → placed i x ≡ true → whole i x ≡ true)
       → (i : ℕ) (items : List A)
@@ -123,7 +123,7 @@ record Keeps (c : ClassFile) (among : List Rule) : Type 0 where
       c.attributes ≡ None
 
 module _ (c : ClassFile) where
-  -- of items that are asked for a rule and for others
+  -- the test of items by one rule, apart from the others
   first_here : {A : Type 0} (test : Rule → ℕ → A → Bool) (rule : Rule) (others : List Rule)
       (items : List A)
       → first_failing (λ i x. list_all (λ r. test r i x) (rule ∷ others)) 0 items ≡ None
@@ -178,7 +178,7 @@ module _ (c : ClassFile) where
   none_of [] k = refl
   none_of (rule ∷ others) k = rw (no_spot rule others k) (none_of others (fewer rule others k))
 
-  -- of a slot the first rule apart from the others
+  -- the test of a slot by the first rule, apart from the others
   slot_whole : (slot : Slot) → in_slot utf8_has_form slot ≡ true
       → in_slot (constant_keeps c) slot ≡ true
       → list_all (λ rule. in_slot (pool_rule rule c) slot) all_rules ≡ true

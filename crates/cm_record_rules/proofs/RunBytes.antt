@@ -18,7 +18,7 @@ drop_fits zero bytes are = are
 drop_fits (suc n) [] are = tt
 drop_fits (suc n) (b ∷ bytes) are = drop_fits n bytes are.1
 
--- the first bytes of a word and what stands behind it
+-- the first bytes of a word and of what follows it
 take_across : (n : ℕ) (word behind : List ℕ) → length word ≡ 8
     → take n (word ++ behind) ≡ take n word ++ take (n - 8) behind
 take_across n word behind e = elim (cases_lt n 8) [
@@ -65,7 +65,7 @@ bytes_from_word (suc n) (w ∷ words) =
     ∙ (ap (drop (8 * n)) (drop_at (bytes_of w) (word_bytes words) 8 (length-bytes_of w))
     ∙ bytes_from_word n words))
 
--- where a run's words stand, its bytes do
+-- if a run's words are at a place, so are its bytes
 pub run_there : (words xs rest : List ℕ) (at : ℕ) → AreBytes xs
     → drop at words ≡ packed xs ++ rest → run_bytes (word_bytes words) at (length xs) ≡ xs
 run_there words xs rest at are there =

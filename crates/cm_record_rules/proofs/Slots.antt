@@ -15,7 +15,7 @@ use Rattle.cm_class.specs.declared.class_file.ClassFile.{ClassFile}
 use Rattle.cm_class.specs.Names.{constant_named, constant_in}
 use Rattle.cm_class.specs.Spelling.{ClassConstant, tag}
 use Rattle.cm_class.specs.declared.constant.Constant.TheVariants as constant
-use Rattle.cm_names.specs.Forms.{has_utf8_form}
+use Rattle.cm_descriptors.specs.Forms.{has_utf8_form}
 use Rattle.cm_constraints.specs.Constants.{in_slot}
 use Rattle.cm_rules.specs.Fault.{pool_rule}
 use Rattle.cm_rules.specs.Kept.{constant_keeps}
@@ -30,7 +30,7 @@ module _ (test : ClassConstant → Bool) where
   slot_there (Unusable ∷ slots) zero h = refl
   slot_there (s ∷ slots) (suc i) h = slot_there slots i (omega arith)
 
-  -- one index more passes the test
+  -- one more index passes the test
   pub one_more : (c : ClassFile) (i j : ℕ) → j ≡ i + 1 → i < length c.slots
       → option_map_or test (constant_named c j) true ≡ true
       → list_all (in_slot test) (take i c.slots) ≡ true
@@ -49,7 +49,7 @@ module _ (test : ClassConstant → Bool) where
       → list_all (in_slot test) (take i c.slots) ≡ true → list_all (in_slot test) c.slots ≡ true
   all_of c i le so_far = ap (list_all (in_slot test)) (sym (take_all i c.slots le)) ∙ so_far
 
--- ---- what is asked of a Utf8, and of any other constant
+-- ---- what is required of a Utf8, and of any other constant
 
 pub form_alone : (c : ClassFile) (text : List ℕ)
     → constant_is_right c (constant.Utf8 text) ≡ has_utf8_form text

@@ -1,4 +1,4 @@
--- The tags of a class's constants, out of the words of its directory.
+-- The tags of a class's constants, from the words of its directory.
 -- For `LaidClass::names`, `write_tags`.
 use Rattle.std.proofs.Common.{◌≡◌, ◌+◌, ◌%◌, ◌^◌, ℕ, zero, suc, Bool, true, false, List}
 use Rattle.std.proofs.Common.{[], ◌∷◌, ◌++◌, length, take, get_or, slice_get, Option, Some, None}
@@ -51,7 +51,7 @@ wide_by_tag (constant.MethodHandle a b) = refl
 wide_by_tag (constant.MethodType descriptor) = refl
 wide_by_tag (constant.InvokeDynamic a b) = refl
 
--- the tag tells the kind
+-- the tag determines the kind
 pub kind_by_tag : (d : ClassConstant) → tag_of (tag d) ≡ Some (kind_of d)
 kind_by_tag (constant.Utf8 bytes) = refl
 kind_by_tag (constant.Integer bits) = refl
@@ -68,7 +68,7 @@ kind_by_tag (constant.MethodHandle a b) = refl
 kind_by_tag (constant.MethodType descriptor) = refl
 kind_by_tag (constant.InvokeDynamic a b) = refl
 
--- words behind the first of a constant: those of a wide one begin with its bits
+-- words after the first one of a constant: those of a wide constant begin with its bits
 unfoldable pub behind : Bool → ℕ → List ℕ → List ℕ
 behind true bits words = bits ∷ words
 behind false bits words = words
@@ -120,7 +120,7 @@ tags_read false bits at (Usable d ∷ slots) tail fits =
     (take (length slots) (behind (is_wide d) bits_of (directory next slots ++ tail))))
     ∙ ap (λ ts. tag d ∷ ts) more)
 
--- ---- a tag and what is at its index
+-- ---- a tag and the constant at its index
 
 pub tag_in : (slots : List Slot) (i : ℕ)
     → get_or (map slot_tag slots) i 0 ≡ option_map_or slot_tag (slice_get slots i) 0
@@ -128,7 +128,7 @@ tag_in [] i = refl
 tag_in (s ∷ slots) zero = refl
 tag_in (s ∷ slots) (suc i) = tag_in slots i
 
--- the tag of a constant that an index names; 0 of none
+-- the tag of a constant that an index names; 0 if it names none
 abbrev pub tag_named : Option ClassConstant → ℕ
 tag_named o = option_map_or tag o 0
 

@@ -29,7 +29,7 @@ use Rattle.cm_record_layout.proofs.{interfaces_there, count_there, fields_there,
 use Rattle.cm_record_layout.proofs.{own_there, lay_short, lay_len}
 use Rattle.cm_record_reading.specs.Reading.{class_at}
 use Rattle.cm_record_reading.proofs.{class_again}
-use Rattle.cm_record_rules.specs.Laid.{no_class, class_in, tags_of, tags_from}
+use Rattle.cm_record_rules.specs.Laid.{no_class, laid_class, tags_of, tags_from}
 use Rattle.cm_record_rules.specs.Laid.{constant_there, attributes_in, members_in, IsLaid}
 use Rattle.cm_record_rules.specs.Laid.{constant_of, run_bytes}
 use Rattle.cm_record_rules.proofs.AttributesThere.{behind_front, attributes_read, members_read}
@@ -38,15 +38,15 @@ use Rattle.cm_record_rules.proofs.Tags.{behind, tags_read, tag_named, tag_at_ind
 
 -- ---- the class of words
 
-pub class_in_is : (c : ClassFile) (words : List ℕ) → IsRecordOf c words → class_in words ≡ c
-unfolding class_in
+pub class_in_is : (c : ClassFile) (words : List ℕ) → IsRecordOf c words → laid_class words ≡ c
+unfolding laid_class
 class_in_is c words is =
     ap (λ o. unwrap_or o no_class) (ap class_at is.laid ∙ class_again c is.spelled)
 
-pub class_in_is_of : (words : List ℕ) → IsRecord words → IsRecordOf (class_in words) words
+pub class_in_is_of : (words : List ℕ) → IsRecord words → IsRecordOf (laid_class words) words
 class_in_is_of words (c, is) = subst (λ d. IsRecordOf d words) (sym (class_in_is c words is)) is
 
--- ---- where the parts stand
+-- ---- where the parts are
 
 module _ (c : ClassFile) (spelled : HasSpelling c) where
   abbrev body : List ℕ
@@ -119,7 +119,7 @@ module _ (c : ClassFile) (spelled : HasSpelling c) where
   own_runs_place = behind_front (lay c) (attribute_runs (of_methods c)) own_runs
       (method_runs_at c) method_runs_place
 
-  -- ---- the parts, as the words of the head tell where they stand
+  -- ---- the parts, found where the words of the head say
 
   interfaces_laid : take (fourth_of (get_or (lay c) 1 0)) (drop (get_or (lay c) 4 0) (lay c))
       ≡ c.interfaces
@@ -165,7 +165,7 @@ module _ (c : ClassFile) (spelled : HasSpelling c) where
       ap (λ ts. 0 ∷ ts) ((λ i. tags_from false (take (count i) (main_there c spelled i)))
       ∙ tags_read false 0 (runs_at c) c.slots (c.interfaces ++ body) spelled.slots)
 
--- ---- the same of the words
+-- ---- the same for the words
 
 module _ (c : ClassFile) (words : List ℕ) (is : IsRecordOf c words) where
   pub flags_are : first_of (get_or words 1 0) ≡ c.flags
@@ -209,10 +209,10 @@ module _ (c : ClassFile) (words : List ℕ) (is : IsRecordOf c words) where
       ap (λ w. constant_there w (word_bytes w) (get_or (tags_of c) index 0) index) is.laid
       ∙ constant_is c is.spelled (lay_short c words is) index
 
--- ---- the same of what is kept of a class
+-- ---- the same for what is kept of a class
 
 module _ (c : ClassFile) (words bytes tags : List ℕ) (laid : IsLaid words bytes tags)
-    (same : class_in words ≡ c) where
+    (same : laid_class words ≡ c) where
   its_record : IsRecordOf c words
   its_record = subst (λ d. IsRecordOf d words) same laid.record_of
 
@@ -265,14 +265,14 @@ module _ (c : ClassFile) (words bytes tags : List ℕ) (laid : IsLaid words byte
       ap (λ w. get_or w 5 0) its_record.laid ∙ word_5 c in
       omega (arith, head, lay_len c its_record.spelled, lay_short c words its_record)
 
-  -- where no constant stands at an index
+  -- if there is no constant at an index
   pub its_none : (index tag : ℕ) → tag ≡ get_or (tags_of c) index 0 → None ≡ tag_of tag
       → None ≡ constant_named c index
   its_none index tag there none =
       ap (option_map (constant_of bytes (get_or words (8 + index) 0) (get_or words (9 + index) 0)))
       (none ∙ ap tag_of there) ∙ its_constant index
 
-  -- where one stands
+  -- if there is a constant at an index
   pub its_some : (index tag word next : ℕ) (kind : Kind) → tag ≡ get_or (tags_of c) index 0
       → Some kind ≡ tag_of tag → word ≡ get_or words (8 + index) 0
       → next ≡ get_or words (9 + index) 0
@@ -298,7 +298,7 @@ module _ (c : ClassFile) (words bytes tags : List ℕ) (laid : IsLaid words byte
       let some : Some kinds.NameAndType ≡ tag_of tag = ap tag_of (sym twelve) in
       its_some index tag word (get_or words (9 + index) 0) kinds.NameAndType there some here refl
 
--- no bytes of another constant
+-- another constant has no Utf8 bytes
 no_bytes : (o : Option ClassConstant) → (tag_named o ≡ 1 → ⊥) → [] ≡ option_map_or utf8_in o []
 no_bytes None h = refl
 no_bytes (Some (constant.Utf8 text)) h = absurd (h refl)
@@ -321,7 +321,7 @@ pub no_utf8 : (c : ClassFile) (index tag : ℕ) → tag ≡ get_or (tags_of c) i
 no_utf8 c index tag there other =
     no_bytes (constant_named c index) (λ one. other (there ∙ (tag_at_index c index ∙ one)))
 
--- no indexes of another constant
+-- another constant has no indexes of a NameAndType
 no_indexes : (o : Option ClassConstant) → (tag_named o ≡ 12 → ⊥)
     → (0 ≡ option_map_or name_index o 0) × (0 ≡ option_map_or descriptor_index o 0)
 no_indexes None h = (refl, refl)
@@ -345,7 +345,7 @@ pub no_pair : (c : ClassFile) (index tag : ℕ) → tag ≡ get_or (tags_of c) i
 no_pair c index tag there other =
     no_indexes (constant_named c index) (λ same. other (there ∙ (tag_at_index c index ∙ same)))
 
--- what is asked of a Utf8 alone
+-- what is required of a Utf8 alone
 of_a_utf8 : (test : ClassConstant → Bool) (form : List ℕ → Bool)
     → ((text : List ℕ) → test (constant.Utf8 text) ≡ form text)
     → (o : Option ClassConstant) → tag_named o ≡ 1

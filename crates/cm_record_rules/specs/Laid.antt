@@ -1,4 +1,4 @@
--- A class, as the words of its record tell it, with the bytes of these words.
+-- A class, as determined by the words of its record, with the bytes of these words.
 use Rattle.std.specs.Prelude.{◌≡◌, ℕ, zero, suc, ◌+◌, ◌*◌, List, [], ◌∷◌, take, drop, get_or, map}
 use Rattle.std.specs.Prelude.{Option, option_map, unwrap_or, Bool, true, false, ◌==◌}
 use Rattle.std.specs.Prelude.{◌||◌, ◌%◌, ◌^◌}
@@ -19,7 +19,7 @@ use Rattle.cm_record_reading.specs.Reading.{class_at}
 
 -- ---- the class
 
--- of words that are no record
+-- the class of words that are no record
 abbrev pub no_class : ClassFile
 no_class = record {
   slots = [];
@@ -33,17 +33,17 @@ no_class = record {
 }
 
 -- the class whose record the words are
-unfoldable pub class_in : List ℕ → ClassFile
-class_in words = unwrap_or (class_at words) no_class
+unfoldable pub laid_class : List ℕ → ClassFile
+laid_class words = unwrap_or (class_at words) no_class
 
 -- ---- the tags of its constants
 
--- the tag of the constant in a slot; 0 in the second of a Long or a Double
+-- the tag of the constant in a slot; 0 for the second slot of a Long or a Double
 abbrev pub slot_tag : Slot → ℕ
 slot_tag (Usable c) = tag c
 slot_tag Unusable = 0
 
--- by the index of the pool, from 0 on
+-- the tags by the index of the pool, from 0 on
 unfoldable pub tags_of : ClassFile → List ℕ
 tags_of c = 0 ∷ map slot_tag c.slots
 
@@ -53,7 +53,7 @@ tags_of c = 0 ∷ map slot_tag c.slots
 abbrev pub run_bytes : List ℕ → ℕ → ℕ → List ℕ
 run_bytes bytes at len = take len (drop (8 * at) bytes)
 
--- what a directory word of this kind stands for, with the word after it
+-- what a directory word of this kind denotes, with the word after it
 abbrev pub constant_of : List ℕ → ℕ → ℕ → Kind → ClassConstant
 constant_of bytes word next kinds.Utf8 =
     constant.Utf8 (run_bytes bytes (upper_of word) (second_of word))
@@ -75,7 +75,7 @@ constant_of bytes word next kinds.MethodType = constant.MethodType (third_of wor
 constant_of bytes word next kinds.InvokeDynamic =
     constant.InvokeDynamic (third_of word) (fourth_of word)
 
--- the constant at an index, where its tag is known
+-- the constant at an index whose tag is known
 abbrev pub constant_there : List ℕ → List ℕ → ℕ → ℕ → Option ClassConstant
 constant_there words bytes tag index =
     option_map (constant_of bytes (get_or words (8 + index) 0) (get_or words (9 + index) 0))
@@ -109,21 +109,22 @@ members_in all bytes (suc n) (word ∷ []) = []
 members_in all bytes (suc n) (word ∷ at ∷ words) =
     member_in all bytes word at ∷ members_in all bytes n words
 
--- ---- the whole
+-- ---- the whole class
 
 -- the words are a record, with its bytes and the tags of its constants
 pub record IsLaid (words bytes tags : List ℕ) : Type 0 where
-  pub record_of : IsRecordOf (class_in words) words
+  pub record_of : IsRecordOf (laid_class words) words
   pub bytes_are : bytes ≡ word_bytes words
-  pub tags_are : tags ≡ tags_of (class_in words)
+  pub tags_are : tags ≡ tags_of (laid_class words)
 
--- ---- the tags, out of the directory
+-- ---- the tags, from the directory
 
 -- the tag of a Long or a Double
 abbrev pub is_wide_tag : ℕ → Bool
 is_wide_tag t = (t == 5) || (t == 6)
 
--- of the words of the directory, the first of which may be the second of a Long or a Double
+-- the tags from the words of the directory, the first of which may be the second word of a Long or
+-- a Double
 unfoldable pub tags_from : Bool → List ℕ → List ℕ
 tags_from second [] = []
 tags_from true (word ∷ words) = 0 ∷ tags_from false words

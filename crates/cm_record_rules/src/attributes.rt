@@ -1,4 +1,4 @@
-//! Attributes where they lie, in the words of a record.
+//! Attributes in place, in the words of a record.
 ghost use Rattle.std.specs.Prelude.{◌≡◌, ◌<◌, ◌^◌, length, drop, slice_get};
 ghost use Rattle.std.specs.Iterator.{YieldsFirst, item_count};
 ghost use Rattle.cm_record_rules.specs.Laid.{attributes_in};
@@ -9,13 +9,13 @@ use cm_record_layout::{first, upper};
 use std::marker::Model;
 
 /// The attributes of a class, a field or a method, in order, read one after another from a record's
-/// words; an iterator over them. Contracts see the list of those that are left.
+/// words; an iterator over them. Contracts see the list of the attributes that are left.
 #[derive(Drop)]
 pub(crate) struct LaidAttributes<'a> {
     count: u16,
     /// The bytes of the record.
     bytes: &'a [u8],
-    /// The words of the next one, and what stands after them.
+    /// The words of the next one, and those after them.
     rest: &'a [u64],
 }
 
@@ -30,7 +30,7 @@ impl<'a> Model for LaidAttributes<'a> {
     ghost view = { λ a. attributes_in a.bytes.now a.count a.rest.now };
 }
 
-/// The words from a place on; none past their end.
+/// The words from a place on; none past the end.
 #[tactic(auto, using(std::proofs::lemmas::List::take_rest))]
 pub(crate) fn words_from(words: &[u64], at: usize) -> &[u64]
     ensures { result.now ≡ drop at words.now }
@@ -42,7 +42,7 @@ pub(crate) fn words_from(words: &[u64], at: usize) -> &[u64]
 }
 
 impl<'a> LaidAttributes<'a> {
-    /// So many attributes, whose words begin at a place.
+    /// `count` attributes, whose words begin at a place.
     pub(crate) fn new(
         words: &'a [u64],
         bytes: &'a [u8],
@@ -67,7 +67,7 @@ impl<'a> LaidAttributes<'a> {
         usize::from(self.count).min(self.rest.len() / 2)
     }
 
-    /// The one at a place. It passes over those before it.
+    /// The attribute at a place. It skips those before it.
     pub(crate) fn get(self, place: usize) -> Option<Attribute<'a>>
         ensures { result ≡ slice_get self.entry place }
     {

@@ -11,7 +11,7 @@ use crate::parts::{skip_arguments, skip_one};
 use cm_attributes::Known;
 use cm_class::{Attribute, Kind};
 
-/// What stands after a method handle, a count and that many arguments.
+/// The bytes after a method handle, a count and that many arguments.
 #[tactic(auto, unfolding(crate::specs::Parts::past_parts))]
 fn skip_bootstrap_method<'b>(class: &LaidClass, bytes: &'b [u8]) -> Option<&'b [u8]>
     ensures { option_copied result ≡ past_bootstrap_method class.now bytes.now }
@@ -20,7 +20,7 @@ fn skip_bootstrap_method<'b>(class: &LaidClass, bytes: &'b [u8]) -> Option<&'b [
     skip_arguments(class, rest)
 }
 
-/// What stands after a count, and that many bootstrap methods.
+/// The bytes after a count and that many bootstrap methods.
 pub(crate) fn skip_bootstrap_methods<'b>(class: &LaidClass, bytes: &'b [u8]) -> Option<&'b [u8]>
     ensures { option_copied result ≡ past_counted (past_bootstrap_method class.now) bytes.now }
 {
@@ -31,7 +31,7 @@ pub(crate) fn skip_bootstrap_methods<'b>(class: &LaidClass, bytes: &'b [u8]) -> 
     Some(rest)
 }
 
-/// The count that an attribute begins with; 0 where its content is none.
+/// The count that an attribute begins with; 0 if its content is malformed.
 fn stated_count(class: &LaidClass, attribute: &Attribute) -> u16
     ensures { result ≡ stated_count class.now attribute.now }
 {
@@ -45,8 +45,8 @@ fn stated_count(class: &LaidClass, attribute: &Attribute) -> u16
     }
 }
 
-/// How many bootstrap methods the class has: those of its first such attribute; none, where its
-/// content is none.
+/// How many bootstrap methods the class has: those of its first such attribute; none if its content
+/// is malformed.
 #[tactic(auto, unfolding(cm_attributes::specs::Contents::bootstrap_count))]
 pub(crate) fn bootstrap_count(class: &LaidClass) -> u16
     ensures { result ≡ bootstrap_count_of class.now }

@@ -8,7 +8,7 @@ use crate::numbers::{read_u2, read_u4, skip};
 use crate::parts::{skip_one, skip_two_numbers};
 use cm_class::Kind;
 
-/// What stands after a handler, which guards some of the code's bytes, lies in them, and catches a
+/// The bytes after a handler, which covers some of the code's bytes, is within them, and catches a
 /// class or all.
 fn skip_handler<'b>(class: &LaidClass, size: u32, bytes: &'b [u8]) -> Option<&'b [u8]>
     ensures { option_copied result ≡ past_handler class.now size bytes.now }
@@ -28,7 +28,7 @@ fn skip_handler<'b>(class: &LaidClass, size: u32, bytes: &'b [u8]) -> Option<&'b
     }
 }
 
-/// What stands after a count, and that many handlers.
+/// The bytes after a count and that many handlers.
 fn skip_handlers<'b>(class: &LaidClass, size: u32, bytes: &'b [u8]) -> Option<&'b [u8]>
     ensures { option_copied result ≡ past_counted (past_handler class.now size) bytes.now }
 {
@@ -39,7 +39,7 @@ fn skip_handlers<'b>(class: &LaidClass, size: u32, bytes: &'b [u8]) -> Option<&'
     Some(rest)
 }
 
-/// What stands after an attribute whose name is a Utf8.
+/// The bytes after an attribute whose name is a Utf8.
 #[tactic(auto, unfolding(crate::specs::Parts::past_parts))]
 fn skip_attribute<'b>(class: &LaidClass, bytes: &'b [u8]) -> Option<&'b [u8]>
     ensures { option_copied result ≡ past_attribute class.now bytes.now }
@@ -49,7 +49,7 @@ fn skip_attribute<'b>(class: &LaidClass, bytes: &'b [u8]) -> Option<&'b [u8]>
     skip(len as usize, rest)
 }
 
-/// What stands after a count, and that many attributes.
+/// The bytes after a count and that many attributes.
 fn skip_attributes<'b>(class: &LaidClass, bytes: &'b [u8]) -> Option<&'b [u8]>
     ensures { option_copied result ≡ past_counted (past_attribute class.now) bytes.now }
 {
@@ -60,7 +60,7 @@ fn skip_attributes<'b>(class: &LaidClass, bytes: &'b [u8]) -> Option<&'b [u8]>
     Some(rest)
 }
 
-/// How many bytes the code has, 1 to 65,535, and what stands after them.
+/// How many bytes the code has, 1 to 65,535, and the bytes after them.
 #[tactic(auto, unfolding(cm_attributes::specs::Contents::code_of))]
 fn read_code(bytes: &[u8]) -> Option<(u32, &[u8])>
     ensures { option_map (λ x. (x.0, x.1.now)) result ≡ code_of bytes.now }
@@ -73,7 +73,7 @@ fn read_code(bytes: &[u8]) -> Option<(u32, &[u8])>
     Some((size, rest))
 }
 
-/// What stands after stack, locals, code, handlers and attributes.
+/// The bytes after stack, locals, code, handlers and attributes.
 #[tactic(auto, unfolding(crate::specs::Parts::past_parts))]
 pub(crate) fn skip_code<'b>(class: &LaidClass, bytes: &'b [u8]) -> Option<&'b [u8]>
     ensures { option_copied result ≡ past_code class.now bytes.now }

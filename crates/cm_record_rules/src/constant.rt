@@ -6,7 +6,7 @@ ghost use Rattle.cm_record_rules.specs.Laid.{run_bytes as bytes_of_run};
 use cm_class::{Bytes, Constant, Kind};
 use cm_record_layout::{fourth, second, third, upper};
 
-/// The bytes of a run that begins at a word; those that are there, if it ends past them.
+/// The bytes of a run that begins at a word; if it ends past them, those that are there.
 #[tactic(auto, using(std::proofs::lemmas::List::take_rest))]
 pub(crate) fn run_bytes(bytes: &[u8], at: u64, len: usize) -> &[u8]
     ensures { result.now ≡ bytes_of_run bytes.now at len }
@@ -31,7 +31,7 @@ pub(crate) fn word_at(words: &[u64], place: usize) -> u64
     }
 }
 
-/// The first of some words; all, if there are fewer.
+/// The first `count` words; all if there are fewer.
 #[tactic(auto, using(std::proofs::lemmas::List::take_rest))]
 pub(crate) fn first_words(words: &[u64], count: usize) -> &[u64]
     ensures { result.now ≡ take count words.now }
@@ -39,7 +39,7 @@ pub(crate) fn first_words(words: &[u64], count: usize) -> &[u64]
     words.split_at(count.min(words.len())).0
 }
 
-/// What a directory word of this kind stands for, with the word after it.
+/// What a directory word of this kind denotes, with the word after it.
 pub(crate) fn constant_of<'a>(
     bytes: &'a [u8],
     word: u64,

@@ -1,4 +1,4 @@
-//! What the rules ask of the constants of a class.
+//! What the rules require of the constants of a class.
 ghost use Rattle.std.specs.Prelude.{◌≡◌, true};
 ghost use Rattle.std.specs.Option.{option_map_or};
 ghost use Rattle.std.specs.List.{list_all};
@@ -16,7 +16,7 @@ ghost use Rattle.cm_record_rules.specs.Judged.{constant_is_right};
 use crate::bootstrap::bootstrap_count;
 use crate::laid::{LaidClass, UTF8_TAG};
 use cm_class::{Bytes, Constant, Kind};
-use cm_names::{begins_with, ends_in_void};
+use cm_descriptors::{begins_with, ends_in_void};
 
 const INIT: &[u8] = b"<init>";
 
@@ -29,8 +29,8 @@ fn names_member(class: &LaidClass, of: u16, name_and_type: u16) -> bool
     class.names(of, Kind::Class) && class.names(name_and_type, Kind::NameAndType)
 }
 
-/// Whether each index in a constant names one of the kind that it has to name; of what a method
-/// handle names see `handle_has_kind` (JVMS 4.4).
+/// Whether each index in a constant names one of the kind that it must name; see `handle_has_kind`
+/// for what a method handle names (JVMS 4.4).
 fn names_kinds(class: &LaidClass, constant: &Constant<Bytes>) -> bool
     ensures { result ≡ names_kinds class.now constant.now }
 {
@@ -60,7 +60,7 @@ fn names_kinds(class: &LaidClass, constant: &Constant<Bytes>) -> bool
     }
 }
 
-/// Whether a method handle has one of the kinds, and names what that kind has to name (JVMS 4.4.8).
+/// Whether a method handle has one of the kinds, and names what that kind must name (JVMS 4.4.8).
 fn handle_has_kind(class: &LaidClass, constant: &Constant<Bytes>) -> bool
     ensures { result ≡ handle_has_kind class.now constant.now }
 {
@@ -108,7 +108,7 @@ fn names_method(class: &LaidClass, name_and_type: u16) -> bool
     class.names_method_name(name) && class.names_method_descriptor(descriptor)
 }
 
-/// Whether a pair's name may be called by a reference: of the names that begin with `<` only
+/// Whether a pair's name may be called by a reference: among the names that begin with `<` only
 /// `<init>`, which returns nothing.
 fn is_callable(class: &LaidClass, name_and_type: u16) -> bool
     ensures { result ≡ is_callable class.now name_and_type }
@@ -118,8 +118,8 @@ fn is_callable(class: &LaidClass, name_and_type: u16) -> bool
     !begins_with(b'<', name) || (name == INIT && ends_in_void(class.utf8(descriptor)))
 }
 
-/// Whether a Methodref or InterfaceMethodref has a method's name and descriptor; of names with `<`
-/// a Methodref has only `<init>`, which returns nothing (JVMS 4.4.2).
+/// Whether a Methodref or InterfaceMethodref has a method's name and descriptor; among the names
+/// that begin with `<` a Methodref may have only `<init>`, which returns nothing (JVMS 4.4.2).
 fn method_reference_is_formed(class: &LaidClass, constant: &Constant<Bytes>) -> bool
     ensures { result ≡ method_reference_is_formed class.now constant.now }
 {
@@ -182,7 +182,7 @@ fn dynamic_call_is_bound(class: &LaidClass, methods: u16, constant: &Constant<By
     }
 }
 
-/// Whether a constant keeps all rules but that on the form of Utf8s.
+/// Whether a constant keeps all rules except that on the form of Utf8s.
 #[tactic(auto, unfolding(cm_rules::specs::Kept::constant_keeps, cm_rules::specs::Fault::pool_rule))]
 fn constant_keeps(class: &LaidClass, methods: u16, constant: &Constant<Bytes>) -> bool
     requires { methods ≡ bootstrap_count class.now }
@@ -216,7 +216,7 @@ fn constant_keeps(class: &LaidClass, methods: u16, constant: &Constant<Bytes>) -
     }
 }
 
-/// Whether the constant at an index keeps all rules; true if none stands.
+/// Whether the constant at an index keeps all rules; true if there is none.
 #[tactic(auto, unfolding(crate::specs::Judged::constant_is_right))]
 fn is_right_at(class: &LaidClass, methods: u16, index: u16) -> bool
     requires { methods ≡ bootstrap_count class.now }

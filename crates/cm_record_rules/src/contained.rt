@@ -1,4 +1,4 @@
-//! What is asked of the attributes of fields, methods and the class.
+//! What the rules require of the attributes of fields, methods and the class.
 ghost use Rattle.std.specs.Prelude.{◌≡◌};
 ghost use Rattle.std.specs.List.{list_all};
 ghost use Rattle.cm_constraints.specs.Attributes.{has_content_of, are_values_of, values_agree};
@@ -99,7 +99,7 @@ pub(crate) fn field_attributes_are_right(class: &LaidClass, field: &LaidMember) 
         && values_agree(class, field)
 }
 
-/// Whether a method's attributes but its code have their contents, with at most one Exceptions
+/// Whether a method's attributes, except its code, have their contents, with at most one Exceptions
 /// (JVMS 4.7.5, 4.7.8, 4.7.9, 4.7.15).
 pub(crate) fn method_attributes_are_right(class: &LaidClass, method: &LaidMember) -> bool
     ensures { result ≡ method_attributes_are_right class.now method.now }
@@ -109,7 +109,7 @@ pub(crate) fn method_attributes_are_right(class: &LaidClass, method: &LaidMember
 }
 
 /// Whether an attribute of the class at a place is none of these, or the first of its name. The
-/// places are looked through for an attribute of such a name alone, of which a second one ends the
+/// places are searched only for an attribute with such a name; a second one with the name ends the
 /// search.
 fn is_first_of(class: &LaidClass, among: &[Known], place: usize, attribute: &Attribute) -> bool
     ensures { result ≡ is_first_of class.now among.now place attribute.now }

@@ -12,8 +12,8 @@ use crate::parts::{
 use cm_attributes::Known;
 use cm_class::Kind;
 
-/// Whether the bytes are a content of this attribute, and nothing else. Of a ConstantValue it isn't
-/// asked which constant it names.
+/// Whether the bytes are a content of this attribute, and nothing else. For a ConstantValue it
+/// isn't checked which constant it names.
 #[tactic(auto, unfolding(crate::specs::Parts::is_content, crate::specs::Parts::past_parts))]
 pub(crate) fn is_content(class: &LaidClass, known: Known, bytes: &[u8]) -> bool
     ensures { result ≡ is_content class.now known bytes.now }

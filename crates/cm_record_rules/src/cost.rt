@@ -1,19 +1,20 @@
 //! Whether comparing the members of a class takes time in proportion to its record.
 //!
-//! Each member is compared with those before it, so a class of many members with long names would
-//! have its names read again and again. Such a class, which no compiler writes, is left to
-//! `cm_rules`, which tells members apart by what their names are found to be.
+//! Each member is compared with those before it, so the names of a class with many members and long
+//! names would be read again and again. Such a class, which no compiler writes, is left to
+//! `cm_rules`, which distinguishes members by the results of examining their names.
 
 use crate::laid::LaidClass;
 use crate::members::LaidMembers;
 
-/// How many bytes may be gone over for each byte of the record.
+/// How many bytes may be compared for each byte of the record.
 const PASSES: usize = 32;
 
-/// So many members before one cost as much as its own name.
+/// How many members before one cost as much to compare as reading its own name.
 const MEMBERS_A_PASS: usize = 16;
 
-/// Of the names and descriptors of members, each of which is compared with those before it.
+/// The cost of the names and descriptors of members, each of which is compared with those before
+/// it.
 fn members_cost(class: &LaidClass, members: LaidMembers) -> usize {
     let passes = members.len() / MEMBERS_A_PASS;
     if passes == 0 {
@@ -29,7 +30,7 @@ fn members_cost(class: &LaidClass, members: LaidMembers) -> usize {
     cost.saturating_mul(passes)
 }
 
-/// Whether the members of the class have names that are short enough for how many there are.
+/// Whether the names of the members are short enough for the number of members.
 pub(crate) fn is_cheap(class: &LaidClass) -> bool {
     let cost = members_cost(class, class.fields()).saturating_add(members_cost(
         class,

@@ -1,4 +1,4 @@
-//! What the rules ask of the fields of a class, but that no two are the same.
+//! What the rules require of the fields of a class, except that no two are the same.
 ghost use Rattle.std.specs.Prelude.{◌≡◌, true};
 ghost use Rattle.std.specs.List.{list_all};
 ghost use Rattle.cm_class.specs.declared.kind.Kind.TheVariants as kinds;
@@ -52,7 +52,7 @@ fn field_keeps(class: &LaidClass, field: &LaidMember) -> bool
         && field_attributes_are_right(class, field)
 }
 
-/// Whether each field keeps all rules but that no other is the same.
+/// Whether each field keeps all rules except that no other field is the same.
 pub(crate) fn fields_keep(class: &LaidClass) -> bool
     ensures { result ≡ list_all (field_keeps class.now) class.now.fields }
 {

@@ -1,4 +1,4 @@
-//! The access flags of methods, and which of them agree (JVMS 4.6).
+//! The access flags of methods, and which combinations agree (JVMS 4.6).
 ghost use Rattle.std.specs.Prelude.{◌≡◌};
 ghost use Rattle.cm_constraints.specs.Flags.{has, one_if, visibilities};
 ghost use Rattle.cm_constraints.specs.Flags.{interface_method_agrees, method_flags_agree};
@@ -42,7 +42,7 @@ const NOT_OF_CONSTRUCTOR: u16 = ACC_STATIC
     | ACC_NATIVE
     | ACC_ABSTRACT;
 
-/// Whether a flag is set, or one of several.
+/// Whether a flag, or one of several flags, is set.
 pub(crate) fn has(flags: u16, some: u16) -> bool
     ensures { result ≡ has flags some }
 {
@@ -55,7 +55,7 @@ fn one_if(holds: bool) -> u8
     if holds { 1 } else { 0 }
 }
 
-/// How many of public, private and protected.
+/// How many of public, private and protected are set.
 fn visibilities(flags: u16) -> u8
     ensures { result ≡ visibilities flags }
 {

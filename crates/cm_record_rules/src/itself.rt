@@ -1,4 +1,4 @@
-//! What the rules ask of the class itself, of its super class and of its interfaces.
+//! What the rules require of the class itself, of its super class and of its interfaces.
 ghost use Rattle.std.specs.Prelude.{◌≡◌, true};
 ghost use Rattle.std.specs.List.{list_all};
 ghost use Rattle.cm_constraints.specs.Itself.{this_is_no_array, super_is_right};
@@ -8,19 +8,19 @@ use crate::flags::{ACC_INTERFACE, has};
 use crate::laid::LaidClass;
 use cm_class::Kind;
 use cm_constraints::class_flags_agree;
-use cm_names::begins_with;
+use cm_descriptors::begins_with;
 
 const OBJECT: &[u8] = b"java/lang/Object";
 
-/// Whether the class isn't an array by its name (JVMS 4.1).
+/// Whether the class, by its name, isn't an array (JVMS 4.1).
 fn this_is_no_array(class: &LaidClass) -> bool
     ensures { result ≡ this_is_no_array class.now }
 {
     !begins_with(b'[', class.class_name(class.this_class()))
 }
 
-/// Whether an interface's super class is `java/lang/Object`, and any other class but that has one
-/// (JVMS 4.1).
+/// Whether an interface's super class is `java/lang/Object`, and any other class except that one
+/// has a super class (JVMS 4.1).
 fn super_is_right(class: &LaidClass) -> bool
     ensures { result ≡ super_is_right class.now }
 {
@@ -41,7 +41,7 @@ pub(crate) fn this_keeps(class: &LaidClass) -> bool
         && this_is_no_array(class)
 }
 
-/// Whether its super class does.
+/// Whether its super class keeps all rules.
 #[tactic(auto, unfolding(cm_rules::specs::Kept::super_keeps, cm_rules::specs::Fault::super_rule))]
 pub(crate) fn super_keeps(class: &LaidClass) -> bool
     ensures { result ≡ super_keeps class.now }
@@ -60,7 +60,7 @@ fn interface_keeps(class: &LaidClass, index: u64) -> bool
     }
 }
 
-/// Whether its interfaces do.
+/// Whether its interfaces keep all rules.
 pub(crate) fn interfaces_keep(class: &LaidClass) -> bool
     ensures { result ≡ true
         → list_all (interface_keeps class.now) class.now.interfaces ≡ true }

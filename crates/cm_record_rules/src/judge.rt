@@ -1,4 +1,4 @@
-//! Judging the class of a record over its words.
+//! Checking the class of a record by the rules, using its words.
 ghost use Rattle.std.specs.Prelude.{◌≡◌, true, None};
 ghost use Rattle.cm_class.specs.declared.class_file.ClassFile.{ClassFile};
 ghost use Rattle.cm_record_layout.specs.Layout.{IsRecord, IsRecordOf};
@@ -16,7 +16,7 @@ use crate::table::judgements;
 use crate::twins::no_twins;
 use std::alloc::Global;
 
-/// Whether the class is seen to keep all rules.
+/// Whether the class is found to keep all rules.
 #[tactic(auto, using(crate::proofs::JudgedRules::no_fault_judged))]
 fn keeps_rules(class: &LaidClass) -> bool
     ensures { result ≡ true → fault class.now ≡ None }
@@ -33,13 +33,13 @@ fn keeps_rules(class: &LaidClass) -> bool
         && no_twins(class, &class.methods())
 }
 
-/// Whether the class of a record is seen to keep all class rules: a quick test that promises only
-/// its `true`, over the record's words, without the class. With any other answer the class may keep
-/// them too: `first_fault` of `cm_rules` says.
+/// Whether the class of a record is found to keep all class rules: a quick test over the record's
+/// words, without building the class. Only `true` is a promise: if it returns `false`, the class
+/// may still keep all rules, which `first_fault` of `cm_rules` decides.
 ///
-/// The scratch is for this call alone, and one serves for any number of records: it grows to the
-/// bytes of the words and of a byte for each constant. If memory can't be had the answer is
-/// `false`.
+/// The scratch is used by this call alone, and one can be reused for any number of records: it
+/// grows to the size of the words and one byte per constant. Returns `false` if an allocation
+/// failed.
 pub fn judge_words(alloc: Global, scratch: &mut Vec<u8>, words: &[u64]) -> bool
     requires { IsRecord words.now }
     ensures { result ≡ true → (c : ClassFile) → IsRecordOf c words.now → fault c ≡ None }

@@ -1,4 +1,4 @@
-//! The attributes that are looked into, by their names.
+//! The attributes whose contents are checked, by their names.
 ghost use Rattle.std.specs.Prelude.{◌≡◌, position};
 ghost use Rattle.cm_attributes.specs.Names.{is_known, count_of, first_place};
 
@@ -7,7 +7,7 @@ use crate::laid::LaidClass;
 use cm_attributes::Known;
 use cm_class::Attribute;
 
-/// Whether an attribute of a class, or of its members, is this one by its name.
+/// Whether an attribute of a class, or of its members, is this one, by its name.
 #[tactic(auto, unfolding(cm_attributes::specs::Names::is_known))]
 pub(crate) fn is_known(class: &LaidClass, known: Known, attribute: &Attribute) -> bool
     ensures { result ≡ is_known class.now known attribute.now }
@@ -49,8 +49,8 @@ fn position_of(class: &LaidClass, known: Known) -> Option<usize>
     None
 }
 
-/// The first place among the attributes of the class itself where this one stands; their number,
-/// if it stands at none.
+/// The first place at which this attribute is among the attributes of the class itself; if it isn't
+/// there, their number.
 #[tactic(auto, unfolding(cm_attributes::specs::Names::first_place))]
 pub(crate) fn first_place(class: &LaidClass, known: Known) -> usize
     ensures { result ≡ first_place class.now known }

@@ -1,11 +1,11 @@
-//! A class where it lies, in the words of its record.
+//! A class in place, in the words of its record.
 ghost use Rattle.std.specs.Prelude.{◌≡◌, ◌<◌, ◌^◌, length, get_or, slice_get};
 
 use crate::attributes::{LaidAttributes, words_from};
 use crate::constant::{constant_of, first_words, run_bytes, word_at};
 use crate::members::LaidMembers;
 use cm_class::{Bytes, Constant, Kind};
-use cm_names::Judgement;
+use cm_descriptors::Judgement;
 use cm_record_layout::{
     DIRECTORY_AT, HEAD_CLASS, HEAD_COUNTS, HEAD_INTERFACES_AT, HEAD_MEMBERS_AT, HEAD_RUNS_AT,
     first, fourth, second, third, upper,
@@ -24,47 +24,47 @@ pub(crate) const UTF8_TAG: u8 = 1;
 /// The tag of a NameAndType.
 const NAME_AND_TYPE_TAG: u8 = 12;
 
-/// A class where it lies, in the words of its record. Contracts see the `ClassFile` that it is.
+/// A class in place, in the words of its record. Contracts see the `ClassFile` that it is.
 #[derive(Drop)]
 pub(crate) struct LaidClass<'a> {
     words: &'a [u64],
     /// The bytes of these words.
     bytes: &'a [u8],
-    /// The tag of each constant, by its index; 0 if none stands.
+    /// The tag of each constant, by its index; 0 if there is none.
     tags: &'a [u8],
-    /// What the Utf8s are, by their indexes, as far as that was found out.
+    /// What the Utf8s are, by their indexes, as far as that was determined.
     table: &'a [Judgement],
 }
 
 impl<'a> Model for LaidClass<'a> {
     ghost use Rattle.cm_class.specs.declared.class_file.ClassFile.{ClassFile};
-    ghost use Rattle.cm_record_rules.specs.Laid.{class_in, IsLaid};
+    ghost use Rattle.cm_record_rules.specs.Laid.{laid_class, IsLaid};
     ghost use Rattle.cm_record_rules.specs.Judged.{AreJudged};
 
     ghost Value = { ClassFile };
 
-    ghost view = { λ c. class_in c.words.now };
+    ghost view = { λ c. laid_class c.words.now };
 
     ghost invariant = { λ c. IsLaid c.words.now c.bytes.now c.tags.now
-        × AreJudged (class_in c.words.now) c.table.now };
+        × AreJudged (laid_class c.words.now) c.table.now };
 }
 
 impl<'a> LaidClass<'a> {
     ghost use Rattle.std.specs.Prelude.{◌≡◌, ◌<◌, ◌^◌, length, get_or, IfSome};
-    ghost use Rattle.cm_names.specs.Judgement.{judgement};
+    ghost use Rattle.cm_descriptors.specs.Judgement.{judgement};
     ghost use Rattle.cm_record_rules.specs.Judged.{AreJudged};
     ghost use Rattle.cm_class.specs.Names.{constant_named, names, utf8, name_index_at};
     ghost use Rattle.cm_class.specs.Names.{descriptor_index_at};
     ghost use Rattle.cm_record_layout.specs.Packing.{word_bytes};
     ghost use Rattle.cm_record_layout.specs.Layout.{IsRecord};
-    ghost use Rattle.cm_record_rules.specs.Laid.{class_in, tags_of};
+    ghost use Rattle.cm_record_rules.specs.Laid.{laid_class, tags_of};
 
     /// The class of a record's words, with their bytes and the tags of its constants.
     pub(crate) fn new(words: &'a [u64], bytes: &'a [u8], tags: &'a [u8]) -> LaidClass<'a>
         requires record { IsRecord words.now }
         requires bytes { bytes.now ≡ word_bytes words.now }
-        requires tags { tags.now ≡ tags_of (class_in words.now) }
-        ensures { result ≡ class_in words.now }
+        requires tags { tags.now ≡ tags_of (laid_class words.now) }
+        ensures { result ≡ laid_class words.now }
     {
         LaidClass {
             words,
@@ -83,9 +83,9 @@ impl<'a> LaidClass<'a> {
     ) -> LaidClass<'a>
         requires record { IsRecord words.now }
         requires bytes { bytes.now ≡ word_bytes words.now }
-        requires tags { tags.now ≡ tags_of (class_in words.now) }
-        requires table { AreJudged (class_in words.now) table.now }
-        ensures { result ≡ class_in words.now }
+        requires tags { tags.now ≡ tags_of (laid_class words.now) }
+        requires table { AreJudged (laid_class words.now) table.now }
+        ensures { result ≡ laid_class words.now }
     {
         LaidClass {
             words,
@@ -95,7 +95,7 @@ impl<'a> LaidClass<'a> {
         }
     }
 
-    /// What the Utf8 at an index is; none where that wasn't found out.
+    /// What the Utf8 at an index is; `None` if that wasn't determined.
     pub(crate) fn judgement(&self, index: u16) -> Option<Judgement>
         ensures { IfSome result (λ found. found ≡ judgement (utf8 self.now index)) }
     {
@@ -123,14 +123,14 @@ impl<'a> LaidClass<'a> {
         third(word_at(self.words, HEAD_CLASS))
     }
 
-    /// The last index of the pool, which is how many slots it has.
+    /// The last index of the pool, which equals the number of slots.
     pub(crate) fn last_index(&self) -> u16
         ensures { result ≡ length self.now.slots }
     {
         first(word_at(self.words, HEAD_COUNTS)).saturating_sub(1)
     }
 
-    /// The tag of the constant at an index; 0 if none stands.
+    /// The tag of the constant at an index; 0 if there is none.
     pub(crate) fn tag(&self, index: u16) -> u8
         ensures { result ≡ get_or (tags_of self.now) index 0 }
     {
@@ -153,8 +153,8 @@ impl<'a> LaidClass<'a> {
         u16::from(self.tag(index)) == kind.tag()
     }
 
-    /// The constant that an index of the pool names; none at 0, after a Long or a Double, and past
-    /// the pool.
+    /// The constant that an index of the pool names; `None` at 0, after a Long or a Double, and
+    /// past the end of the pool.
     pub(crate) fn constant(&self, index: u16) -> Option<Constant<Bytes<'a>>>
         ensures { result ≡ constant_named self.now index }
     {
@@ -168,7 +168,7 @@ impl<'a> LaidClass<'a> {
         }
     }
 
-    /// The bytes of the Utf8 that an index names; none if it names no Utf8.
+    /// The bytes of the Utf8 that an index names; empty if it names no Utf8.
     pub(crate) fn utf8(&self, index: u16) -> &'a [u8]
         ensures { result.now ≡ utf8 self.now index }
     {

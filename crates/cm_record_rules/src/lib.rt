@@ -1,4 +1,4 @@
-//! Whether the class of a record keeps the class rules, judged over the record's words.
+//! Whether the class of a record keeps the class rules, checked over the record's words.
 #![tactic(auto)]
 
 mod attributes;

@@ -1,4 +1,4 @@
-//! Fields and methods where they lie, in the words of a record.
+//! Fields and methods in place, in the words of a record.
 ghost use Rattle.std.specs.Prelude.{◌≡◌, ◌<◌, ◌^◌, length, drop};
 ghost use Rattle.std.specs.Iterator.{YieldsFirst, item_count};
 ghost use Rattle.cm_record_rules.specs.Laid.{member_in, members_in};
@@ -58,13 +58,13 @@ impl<'a> LaidMember<'a> {
 }
 
 /// The fields or the methods of a class, in order, read one after another from a record's words; an
-/// iterator over them. Contracts see the list of those that are left.
+/// iterator over them. Contracts see the list of the members that are left.
 #[derive(Drop)]
 pub(crate) struct LaidMembers<'a> {
     count: u16,
     all: &'a [u64],
     bytes: &'a [u8],
-    /// The words of the next one, and what stands after them.
+    /// The words of the next one, and those after them.
     rest: &'a [u64],
 }
 
@@ -80,7 +80,7 @@ impl<'a> Model for LaidMembers<'a> {
 }
 
 impl<'a> LaidMembers<'a> {
-    /// So many members, whose words begin at a place.
+    /// `count` members, whose words begin at a place.
     pub(crate) fn new(words: &'a [u64], bytes: &'a [u8], at: usize, count: u16) -> LaidMembers<'a>
         ensures { result ≡ members_in words.now bytes.now count (drop at words.now) }
     {
@@ -100,7 +100,7 @@ impl<'a> LaidMembers<'a> {
         usize::from(self.count).min(self.rest.len() / 2)
     }
 
-    /// The same ones, to go over.
+    /// An iterator over the same members.
     pub(crate) fn iter(&self) -> LaidMembers<'a>
         ensures { result ≡ self.now }
     {

@@ -1,4 +1,4 @@
-//! What the rules ask of the methods of a class, but that no two are the same.
+//! What the rules require of the methods of a class, except that no two are the same.
 ghost use Rattle.std.specs.Prelude.{◌≡◌};
 ghost use Rattle.cm_constraints.specs.Members.{method_is_named, is_clinit, is_init, units_fit};
 ghost use Rattle.cm_constraints.specs.Members.{flags_fit_method, code_count_is_right};
@@ -49,7 +49,7 @@ fn units_fit(class: &LaidClass, method: &LaidMember) -> bool
     }
 }
 
-/// Whether a method's flags agree; those of `<clinit>` do in any case (JVMS 4.6).
+/// Whether a method's flags agree; those of `<clinit>` always do (JVMS 4.6).
 fn flags_fit_method(class: &LaidClass, method: &LaidMember) -> bool
     ensures { result ≡ flags_fit_method class.now method.now }
 {
@@ -58,8 +58,8 @@ fn flags_fit_method(class: &LaidClass, method: &LaidMember) -> bool
             && (!is_init(class, method) || constructor_flags_agree(method.flags())))
 }
 
-/// Whether a native or abstract method has no code, any other exactly one, `<clinit>` at most one
-/// (JVMS 4.7.3).
+/// Whether a native or abstract method has no code, any other has exactly one, and `<clinit>` at
+/// most one (JVMS 4.7.3).
 fn code_count_is_right(class: &LaidClass, method: &LaidMember) -> bool
     ensures { result ≡ code_count_is_right class.now method.now }
 {
@@ -101,7 +101,7 @@ fn method_keeps(class: &LaidClass, method: &LaidMember) -> bool
         && method_attributes_are_right(class, method)
 }
 
-/// Whether each method keeps all rules but that no other is the same.
+/// Whether each method keeps all rules except that no other method is the same.
 pub(crate) fn methods_keep(class: &LaidClass) -> bool
     ensures { result ≡ list_all (method_keeps class.now) class.now.methods }
 {

@@ -2,7 +2,7 @@
 
 use crate::laid::LaidClass;
 use cm_class::{Constant, Kind};
-use cm_names::{
+use cm_descriptors::{
     begins_with, has_utf8_form, is_class_name, is_field_descriptor, is_method_name,
     is_unqualified_name, method_units,
 };
@@ -12,10 +12,11 @@ impl<'a> LaidClass<'a> {
     ghost use Rattle.std.specs.Option.{option_map_or};
     ghost use Rattle.cm_class.specs.Names.{constant_named, utf8, names_utf8, class_name_index};
     ghost use Rattle.cm_class.specs.Names.{class_name, pair_index, reference_name};
-    ghost use Rattle.cm_names.specs.Forms.{is_class_name, is_unqualified_name, is_method_name};
-    ghost use Rattle.cm_names.specs.Forms.{has_utf8_form};
-    ghost use Rattle.cm_names.specs.Forms.{is_field_descriptor, is_array_descriptor};
-    ghost use Rattle.cm_names.specs.Forms.{is_method_descriptor, method_units};
+    ghost use Rattle.cm_descriptors.specs.Forms.{is_class_name, is_unqualified_name};
+    ghost use Rattle.cm_descriptors.specs.Forms.{is_method_name};
+    ghost use Rattle.cm_descriptors.specs.Forms.{has_utf8_form};
+    ghost use Rattle.cm_descriptors.specs.Forms.{is_field_descriptor, is_array_descriptor};
+    ghost use Rattle.cm_descriptors.specs.Forms.{is_method_descriptor, method_units};
 
     /// Whether an index names a Utf8 of these bytes.
     pub(crate) fn names_utf8(&self, index: u16, bytes: &[u8]) -> bool
@@ -34,7 +35,7 @@ impl<'a> LaidClass<'a> {
         }
     }
 
-    /// The name of the class that an index names; none if it leads to no Utf8.
+    /// The name of the class that an index names; empty if it leads to no Utf8.
     pub(crate) fn class_name(&self, index: u16) -> &'a [u8]
         ensures { result.now ≡ class_name self.now index }
     {
@@ -55,16 +56,16 @@ impl<'a> LaidClass<'a> {
         }
     }
 
-    /// The name of the field or method to which the reference at an index refers; no bytes where
-    /// there is none.
+    /// The name of the field or method to which the reference at an index refers; empty if there is
+    /// none.
     pub(crate) fn reference_name(&self, index: u16) -> &'a [u8]
         ensures { result.now ≡ reference_name self.now index }
     {
         self.utf8(self.name_and_type(self.pair_index(index)).0)
     }
 
-    /// Whether the Utf8 at an index has the form of one.
-    #[tactic(auto, unfolding(cm_names::specs::Judgement::judgement))]
+    /// Whether the Utf8 at an index has the right form.
+    #[tactic(auto, unfolding(cm_descriptors::specs::Judgement::judgement))]
     pub(crate) fn has_utf8_form(&self, index: u16) -> bool
         ensures { result ≡ has_utf8_form (utf8 self.now index) }
     {
@@ -75,7 +76,7 @@ impl<'a> LaidClass<'a> {
     }
 
     /// Whether the Utf8 at an index is a class name.
-    #[tactic(auto, unfolding(cm_names::specs::Judgement::judgement))]
+    #[tactic(auto, unfolding(cm_descriptors::specs::Judgement::judgement))]
     pub(crate) fn names_class_name(&self, index: u16) -> bool
         ensures { result ≡ is_class_name (utf8 self.now index) }
     {
@@ -86,7 +87,7 @@ impl<'a> LaidClass<'a> {
     }
 
     /// Whether the Utf8 at an index is an unqualified name.
-    #[tactic(auto, unfolding(cm_names::specs::Judgement::judgement))]
+    #[tactic(auto, unfolding(cm_descriptors::specs::Judgement::judgement))]
     pub(crate) fn names_unqualified_name(&self, index: u16) -> bool
         ensures { result ≡ is_unqualified_name (utf8 self.now index) }
     {
@@ -97,7 +98,7 @@ impl<'a> LaidClass<'a> {
     }
 
     /// Whether the Utf8 at an index is a method's name.
-    #[tactic(auto, unfolding(cm_names::specs::Judgement::judgement))]
+    #[tactic(auto, unfolding(cm_descriptors::specs::Judgement::judgement))]
     pub(crate) fn names_method_name(&self, index: u16) -> bool
         ensures { result ≡ is_method_name (utf8 self.now index) }
     {
@@ -108,7 +109,7 @@ impl<'a> LaidClass<'a> {
     }
 
     /// Whether the Utf8 at an index is a field descriptor.
-    #[tactic(auto, unfolding(cm_names::specs::Judgement::judgement))]
+    #[tactic(auto, unfolding(cm_descriptors::specs::Judgement::judgement))]
     pub(crate) fn names_field_descriptor(&self, index: u16) -> bool
         ensures { result ≡ is_field_descriptor (utf8 self.now index) }
     {
@@ -119,7 +120,7 @@ impl<'a> LaidClass<'a> {
     }
 
     /// The units of the method descriptor at an index.
-    #[tactic(auto, unfolding(cm_names::specs::Judgement::judgement))]
+    #[tactic(auto, unfolding(cm_descriptors::specs::Judgement::judgement))]
     pub(crate) fn method_units(&self, index: u16) -> Option<u8>
         ensures { result ≡ method_units (utf8 self.now index) }
     {

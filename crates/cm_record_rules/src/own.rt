@@ -1,4 +1,4 @@
-//! What the rules ask of the attributes of the class itself.
+//! What the rules require of the attributes of the class itself.
 ghost use Rattle.std.specs.Prelude.{◌≡◌, true, None};
 ghost use Rattle.cm_duplicates.specs.Duplicates.{first_failing};
 ghost use Rattle.cm_rules.specs.Kept.{attribute_keeps};

@@ -11,7 +11,7 @@ use crate::laid::LaidClass;
 use crate::numbers::read_u2;
 use cm_class::{Constant, Kind};
 
-/// What stands after the index of a constant of this kind.
+/// The bytes after the index of a constant of this kind.
 fn skip_index<'b>(class: &LaidClass, kind: Kind, bytes: &'b [u8]) -> Option<&'b [u8]>
     ensures { option_copied result ≡ past_test (names kind class.now) bytes.now }
 {
@@ -23,7 +23,7 @@ fn skip_index<'b>(class: &LaidClass, kind: Kind, bytes: &'b [u8]) -> Option<&'b 
     }
 }
 
-/// What stands after 0, or the index of a constant of this kind.
+/// The bytes after 0, or the index of a constant of this kind.
 fn skip_index_or_zero<'b>(class: &LaidClass, kind: Kind, bytes: &'b [u8]) -> Option<&'b [u8]>
     ensures { option_copied result ≡ past_test (λ n. n == 0 || names kind class.now n) bytes.now }
 {
@@ -35,7 +35,7 @@ fn skip_index_or_zero<'b>(class: &LaidClass, kind: Kind, bytes: &'b [u8]) -> Opt
     }
 }
 
-/// What stands after a number.
+/// The bytes after a number.
 fn skip_any(bytes: &[u8]) -> Option<&[u8]>
     ensures { option_copied result ≡ past_test any bytes.now }
 {
@@ -61,7 +61,7 @@ fn is_loadable(class: &LaidClass, index: u16) -> bool
     )
 }
 
-/// What stands after the index of a constant that a bootstrap method takes.
+/// The bytes after the index of a constant that a bootstrap method takes.
 #[tactic(auto, unfolding(crate::specs::Parts::past_parts))]
 fn skip_loadable<'b>(class: &LaidClass, bytes: &'b [u8]) -> Option<&'b [u8]>
     ensures { option_copied result ≡ past_tests (names_such is_loadable class.now ∷ []) bytes.now }
@@ -74,7 +74,7 @@ fn skip_loadable<'b>(class: &LaidClass, bytes: &'b [u8]) -> Option<&'b [u8]>
     }
 }
 
-/// What stands after the index of a constant of this kind, as a row.
+/// The bytes after the index of a constant of this kind, as a row.
 #[tactic(auto, unfolding(crate::specs::Parts::past_parts))]
 pub(crate) fn skip_one<'b>(class: &LaidClass, kind: Kind, bytes: &'b [u8]) -> Option<&'b [u8]>
     ensures { option_copied result ≡ past_tests (names kind class.now ∷ []) bytes.now }
@@ -83,7 +83,7 @@ pub(crate) fn skip_one<'b>(class: &LaidClass, kind: Kind, bytes: &'b [u8]) -> Op
     Some(rest)
 }
 
-/// What stands after a number, as a row.
+/// The bytes after a number, as a row.
 #[tactic(auto, unfolding(crate::specs::Parts::past_parts))]
 pub(crate) fn skip_number(bytes: &[u8]) -> Option<&[u8]>
     ensures { option_copied result ≡ past_tests (any ∷ []) bytes.now }
@@ -92,7 +92,7 @@ pub(crate) fn skip_number(bytes: &[u8]) -> Option<&[u8]>
     Some(rest)
 }
 
-/// What stands after two numbers.
+/// The bytes after two numbers.
 #[tactic(auto, unfolding(crate::specs::Parts::past_parts))]
 pub(crate) fn skip_two_numbers(bytes: &[u8]) -> Option<&[u8]>
     ensures { option_copied result ≡ past_tests (any ∷ any ∷ []) bytes.now }
@@ -102,7 +102,7 @@ pub(crate) fn skip_two_numbers(bytes: &[u8]) -> Option<&[u8]>
     Some(rest)
 }
 
-/// What stands after the class around, and the method.
+/// The bytes after the enclosing class, and the method.
 #[tactic(auto, unfolding(crate::specs::Parts::past_parts))]
 pub(crate) fn skip_enclosing_method<'b>(class: &LaidClass, bytes: &'b [u8]) -> Option<&'b [u8]>
     ensures { option_copied result ≡ past_parts class.now enclosing_method bytes.now }
@@ -112,7 +112,7 @@ pub(crate) fn skip_enclosing_method<'b>(class: &LaidClass, bytes: &'b [u8]) -> O
     Some(rest)
 }
 
-/// What stands after an inner class, the class around, its name and its flags.
+/// The bytes after an inner class, its outer class, its name and its flags.
 #[tactic(auto, unfolding(crate::specs::Parts::past_parts))]
 fn skip_inner_class<'b>(class: &LaidClass, bytes: &'b [u8]) -> Option<&'b [u8]>
     ensures { option_copied result ≡ past_parts class.now inner_class bytes.now }
@@ -124,7 +124,7 @@ fn skip_inner_class<'b>(class: &LaidClass, bytes: &'b [u8]) -> Option<&'b [u8]>
     Some(rest)
 }
 
-/// What stands after a count, and that many exceptions.
+/// The bytes after a count and that many exceptions.
 pub(crate) fn skip_exceptions<'b>(class: &LaidClass, bytes: &'b [u8]) -> Option<&'b [u8]>
     ensures { option_copied result
         ≡ past_counted (past_tests (names kinds.Class class.now ∷ [])) bytes.now }
@@ -136,7 +136,7 @@ pub(crate) fn skip_exceptions<'b>(class: &LaidClass, bytes: &'b [u8]) -> Option<
     Some(rest)
 }
 
-/// What stands after a count, and that many inner classes.
+/// The bytes after a count and that many inner classes.
 pub(crate) fn skip_inner_classes<'b>(class: &LaidClass, bytes: &'b [u8]) -> Option<&'b [u8]>
     ensures { option_copied result ≡ past_counted (past_parts class.now inner_class) bytes.now }
 {
@@ -147,7 +147,7 @@ pub(crate) fn skip_inner_classes<'b>(class: &LaidClass, bytes: &'b [u8]) -> Opti
     Some(rest)
 }
 
-/// What stands after a count, and that many arguments of a bootstrap method.
+/// The bytes after a count and that many arguments of a bootstrap method.
 pub(crate) fn skip_arguments<'b>(class: &LaidClass, bytes: &'b [u8]) -> Option<&'b [u8]>
     ensures { option_copied result
         ≡ past_counted (past_tests (names_such is_loadable class.now ∷ [])) bytes.now }

@@ -3,7 +3,7 @@ ghost use Rattle.std.specs.Prelude.{◌≡◌, ◌≤◌, ◌+◌, ◌*◌, ◌+
 ghost use Rattle.std.specs.Prelude.{if◌then◌else◌, length, take, drop};
 ghost use Rattle.cm_record_layout.specs.Packing.{word_bytes, bytes_of as bytes_of_word};
 ghost use Rattle.cm_record_layout.specs.Layout.{IsRecord};
-ghost use Rattle.cm_record_rules.specs.Laid.{class_in, tags_of, tags_from};
+ghost use Rattle.cm_record_rules.specs.Laid.{laid_class, tags_of, tags_from};
 ghost use Rattle.cm_record_rules.specs.Laid.{is_wide_tag as is_wide_tag_of};
 
 use crate::attributes::words_from;
@@ -11,7 +11,7 @@ use crate::constant::{first_words, word_at};
 use cm_record_layout::{HEAD_COUNTS, SLOT_1_AT, bytes_of, first};
 use std::alloc::AllocError;
 
-/// The tag in a directory word; 0 where that is the second of a Long or a Double.
+/// The tag in a directory word; 0 if that is the second of a Long or a Double.
 fn tag_in(word: u64, is_second: bool) -> u8
     ensures { result ≡ (if is_second then 0 else word % 2 ^ 8) }
 {
@@ -43,7 +43,7 @@ fn copy_words(out: &mut [u8], words: &[u64])
     }
 }
 
-/// Has nothing but the bytes of the words in the scratch.
+/// Replaces the content of the scratch by the bytes of the words.
 fn write_words(scratch: &mut Vec<u8>, words: &[u64]) -> Result<(), AllocError>
     ensures { OnOk result (scratch.new.items ≡ word_bytes words.now) }
 {
@@ -53,7 +53,7 @@ fn write_words(scratch: &mut Vec<u8>, words: &[u64]) -> Result<(), AllocError>
     Ok(())
 }
 
-/// Puts the tags of the directory's words after what the scratch has.
+/// Appends the tags of the directory's words to the scratch.
 fn write_tags(scratch: &mut Vec<u8>, directory: &[u64]) -> Result<(), AllocError>
     ensures { OnOk result
         (scratch.new.items ≡ scratch.old.items ++ tags_from false directory.now) }
@@ -67,12 +67,12 @@ fn write_tags(scratch: &mut Vec<u8>, directory: &[u64]) -> Result<(), AllocError
     Ok(())
 }
 
-/// Has the bytes of a record's words in the scratch, and after them the tags of its constants by
+/// Fills the scratch with the bytes of a record's words, followed by the tags of its constants by
 /// their indexes, from 0 on.
 pub(crate) fn fill(scratch: &mut Vec<u8>, words: &[u64]) -> Result<(), AllocError>
     requires { IsRecord words.now }
     ensures { OnOk result
-        (scratch.new.items ≡ word_bytes words.now ++ tags_of (class_in words.now)) }
+        (scratch.new.items ≡ word_bytes words.now ++ tags_of (laid_class words.now)) }
 {
     write_words(scratch, words)?;
     scratch.push(0)?;

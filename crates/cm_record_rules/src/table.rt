@@ -1,14 +1,14 @@
-//! What the Utf8s of a class are, each found out once.
+//! What the Utf8s of a class are, each determined once.
 ghost use Rattle.std.specs.Prelude.{◌≡◌, [], IfOk};
 ghost use Rattle.cm_class.specs.Names.{utf8};
-ghost use Rattle.cm_names.specs.Judgement.{judgement};
+ghost use Rattle.cm_descriptors.specs.Judgement.{judgement};
 ghost use Rattle.cm_record_rules.specs.Judged.{AreJudged};
 
 use crate::laid::{LaidClass, UTF8_TAG};
-use cm_names::{Judgement, judge};
+use cm_descriptors::{Judgement, judge};
 use std::alloc::{AllocError, Global};
 
-/// What no bytes are.
+/// The result for no bytes.
 fn judge_nothing() -> Judgement
     ensures { result ≡ judgement [] }
 {
@@ -22,7 +22,7 @@ fn judge_nothing() -> Judgement
     }
 }
 
-/// What the Utf8 at an index is; what no bytes are, if none stands there.
+/// What the Utf8 at an index is; if there is none, the result for no bytes.
 fn judge_at(class: &LaidClass, index: u16) -> Judgement
     ensures { result ≡ judgement (utf8 class.now index) }
 {

@@ -6,7 +6,7 @@ ghost use Rattle.cm_duplicates.specs.Duplicates.{is_first, first_duplicate};
 use crate::laid::LaidClass;
 use crate::members::{LaidMember, LaidMembers};
 
-/// Of more members it isn't found out: each is compared with all before it.
+/// With more members this isn't determined, since each is compared with all before it.
 const MOST: usize = 256;
 
 /// Whether a member has this name and this descriptor.
@@ -37,7 +37,7 @@ fn is_first(class: &LaidClass, all: &LaidMembers, place: usize, member: &LaidMem
     true
 }
 
-/// Whether it is seen that no two of the members are the same.
+/// Whether no two of the members are found to be the same.
 pub(crate) fn no_twins(class: &LaidClass, all: &LaidMembers) -> bool
     ensures { result ≡ true → first_duplicate class.now all.now ≡ None }
 {

@@ -1,4 +1,4 @@
-//! A class judged both ways: as a class, and over the words of its record.
+//! A class checked both ways: as a class, and over the words of its record.
 use crate::sample::CLASS_S;
 use cm_class::{Class, read_shape};
 use cm_record::{Record, build};
@@ -9,16 +9,16 @@ use cm_rules::first_fault;
 use std::alloc::{AllocError, Global};
 use std::test::Fail;
 
-/// What was tried.
+/// The results of the attempts.
 #[derive(Clone, Copy, Debug, PartialEq, Eq)]
 struct Tally {
     /// How many were class files.
     read: u32,
     /// How many of these keep the rules.
     kept: u32,
-    /// How many of these are seen to keep them over the words.
+    /// How many of these are found to keep them over the words.
     seen: u32,
-    /// Of how many the words were said to keep the rules, if the class doesn't.
+    /// For how many the words were said to keep the rules although the class doesn't.
     wrong: u32,
 }
 
@@ -55,7 +55,7 @@ fn words_of(alloc: Global, record: &Record) -> Result<Vec<u64>, AllocError> {
     Ok(words)
 }
 
-/// Whether the class is seen to keep the rules over the words of its record.
+/// Whether the class is found to keep the rules over the words of its record.
 fn is_seen(alloc: Global, scratch: &mut Vec<u8>, class: &Class) -> Result<bool, Fail> {
     let record = build(alloc, class)?;
     let words = words_of(alloc, &record)?;
@@ -115,8 +115,9 @@ fn the_class_is_seen_to_keep_the_rules(rt: HostRuntime) -> Result<(), Fail> {
     Ok(())
 }
 
-/// A call whose memory is refused says nothing, and the next one sees that the class keeps the
-/// rules: so under `rt try --test --fail-alloc`, whichever allocation of the first call is refused.
+/// If an allocation of a call fails, the call says nothing, and the next one finds that the class
+/// keeps the rules: this holds under `rt try --test --fail-alloc`, whichever allocation of the
+/// first call fails.
 #[test]
 fn a_refusal_says_nothing(rt: HostRuntime) {
     let alloc = rt.alloc();

@@ -1,4 +1,4 @@
-//! Tests of judging records over their words, beside judging their classes.
+//! Tests of checking records over their words, compared with checking their classes.
 #![tactic(auto)]
 
 #[cfg(test)]

@@ -1,4 +1,4 @@
--- There is room for what is left to add.
+-- There is room for what is still to be added.
 -- For `push_attribute_runs`, `push_attributes`, `push_attributes_and_runs` and others.
 use Rattle.std.proofs.Common.{◌≡◌, ◌≤◌, ◌+◌, ◌*◌, ℕ, List, ◌∷◌, ◌++◌, length, arith, ap}
 use Rattle.std.proofs.Common.{length-append}
@@ -11,14 +11,14 @@ use Rattle.cm_record_layout.specs.Layout.{attributes_at, runs_at}
 use Rattle.cm_record_layout.proofs.{attributes_len, members_len, all_members_len}
 use Rattle.cm_record_layout.proofs.{all_attributes_len, all_runs_len}
 
--- what was added so far and what is left fit, where all fitted at first
+-- what was added so far and what is still to be added fit, if everything fitted at first
 pub room_left : (words rest start all : List ℕ) (capacity room : ℕ)
     → words ++ rest ≡ start ++ all → capacity ≡ room → length start + length all ≤ room
     → length words + length rest ≤ capacity
 room_left words rest start all capacity room e same fits =
     omega (arith, ap length e, length-append words rest, length-append start all)
 
--- how long the words are behind what was added
+-- how long the words are after an addition
 pub grown : (words words' more more' : List ℕ) → words' ≡ words ++ more
     → length more ≡ length more' → length words' ≡ length words + length more'
 grown words words' more more' e same = omega (arith, ap length e, length-append words more, same)

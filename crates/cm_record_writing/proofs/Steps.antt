@@ -10,7 +10,7 @@ use Rattle.cm_record_layout.specs.Layout.{attributes_at, runs_at, attribute_runs
 use Rattle.cm_record_layout.proofs.{attributes_append, attribute_runs_append, members_append}
 use Rattle.cm_record_layout.proofs.{all_runs}
 
--- one member's attributes more
+-- one more member's attributes
 pub attributes_step : (words words' target : List ℕ) (at at' : ℕ) (all own rest : List Attribute)
     → all ≡ own ++ rest
     → words ++ attributes at all ≡ target → words' ≡ words ++ attributes at own
@@ -39,7 +39,7 @@ pool_and_members w0 w1 w2 w3 w4 w5 c runs at next er ea e1 e2 e3 e4 en e5 =
     ∙ ap (λ w. w ++ c.interfaces ++ members (attributes_at c) (all_members c))
     (append_assoc w0 (0 ∷ []) (directory (runs_at c) c.slots)))
 
--- attributes behind others
+-- attributes after others
 attributes_behind : (w0 w1 w2 : List ℕ) (at next : ℕ) (xs ys : List Attribute)
     → w1 ≡ w0 ++ attributes at xs → next ≡ at + length (attribute_runs xs)
     → w2 ≡ w1 ++ attributes next ys

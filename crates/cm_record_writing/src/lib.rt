@@ -1,4 +1,4 @@
-//! A class written as the words of its record.
+//! Writing a class as the words of its record.
 #![tactic(auto)]
 
 mod parts;

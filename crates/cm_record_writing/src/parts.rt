@@ -1,4 +1,4 @@
-//! The parts of a class's record, each made of sections.
+//! The parts of a class's record, each made up of sections.
 ghost use Rattle.std.specs.Prelude.{◌≡◌, ◌≤◌, ◌+◌, ◌++◌, ◌∷◌, length};
 ghost use Rattle.cm_record_layout.specs.Layout.{head, directory, members, member_attributes};
 ghost use Rattle.cm_record_layout.specs.Layout.{attributes, attribute_runs, utf8_runs, all_members};
@@ -18,7 +18,7 @@ use cm_record_layout::{
 };
 use cm_words::WordBuf;
 
-/// Adds the attributes of members. It gives where the run of the next would begin.
+/// Adds the attributes of members. Returns where the run of the next attribute would begin.
 fn push_member_attributes(words: &mut WordBuf, at: u64, these: &[Member]) -> u64
     requires short { at + length (attribute_runs (member_attributes these.now)) ≤ limit }
     requires room { length words.old.words + length (attributes at (member_attributes these.now))
@@ -48,7 +48,7 @@ fn push_member_runs(words: &mut WordBuf, these: &[Member])
     }
 }
 
-/// Adds the first eight words.
+/// Adds the head, the first eight words.
 pub(crate) fn push_head(words: &mut WordBuf, class: &Class, places: &Places)
     requires places { ArePlaces class.now places.now }
     requires room { length words.old.words + length (head class.now) ≤ words.old.capacity }

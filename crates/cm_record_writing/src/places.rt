@@ -1,4 +1,4 @@
-//! Where the sections of a class's record lie.
+//! Where the sections of a class's record are.
 ghost use Rattle.std.specs.Prelude.{◌≡◌, ◌<◌, ◌≤◌, ◌+◌, ◌-◌, ◌*◌, ◌^◌, length, min, IsNone, IfSome};
 ghost use Rattle.cm_class.specs.Spelling.{HasSpelling};
 ghost use Rattle.cm_record_layout.specs.Layout.{utf8_runs, member_attributes, attribute_runs};
@@ -8,7 +8,7 @@ use crate::sections::{attribute_run_words, slot_run_words};
 use cm_class::{Attributes, Class, Member, Slot};
 use cm_record_layout::{MAX_WORDS, SLOT_1_AT};
 
-/// How many words the runs of the pool take; the greatest u64 stands for more.
+/// How many words the runs of the pool take; the greatest u64 means that many or more.
 fn utf8_words(slots: &[Slot]) -> u64
     ensures { result ≡ min (length (utf8_runs slots.now)) (2 ^ 64 - 1) }
 {
@@ -19,7 +19,7 @@ fn utf8_words(slots: &[Slot]) -> u64
     total
 }
 
-/// How many words attributes and their runs take; the greatest u64 stands for more.
+/// How many words attributes and their runs take; the greatest u64 means that many or more.
 fn attribute_words(these: &Attributes) -> u64
     ensures { result ≡ min (2 * length these.now + length (attribute_runs these.now)) (2 ^ 64 - 1) }
 {
@@ -33,8 +33,8 @@ fn attribute_words(these: &Attributes) -> u64
     total
 }
 
-/// How many words members, their attributes and the runs of these take; the greatest u64 stands for
-/// more.
+/// How many words members, their attributes and the runs of these take; the greatest u64 means that
+/// many or more.
 fn member_words(these: &[Member]) -> u64
     ensures { result ≡ min (2 * length these.now + 2 * length (member_attributes these.now)
         + length (attribute_runs (member_attributes these.now))) (2 ^ 64 - 1) }
@@ -71,7 +71,7 @@ pub(crate) struct Places {
     pub len: u64,
 }
 
-/// How many words the class's record has; the greatest u64 stands for more.
+/// How many words the class's record has; the greatest u64 means that many or more.
 fn words_of(class: &Class) -> u64
     ensures { result ≡ min (record_len class.now) (2 ^ 64 - 1) }
 {
@@ -87,7 +87,7 @@ fn words_of(class: &Class) -> u64
 impl Places {
     ghost use Rattle.cm_record_writing.specs.Places.{ArePlaces};
 
-    /// The places in the record of a class; none where the record is too long.
+    /// The places in the record of a class; `None` if the record is too long.
     #[tactic(auto, using(cm_record_layout::proofs::lay_len))]
     pub(crate) fn of(class: &Class) -> Option<Places>
         ensures spelled { HasSpelling class.now }

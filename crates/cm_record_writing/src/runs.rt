@@ -5,7 +5,7 @@ ghost use Rattle.cm_record_layout.specs.Packing.{packed};
 use cm_record_layout::word_of;
 use cm_words::WordBuf;
 
-/// Adds the words of whole eights of bytes. It gives the bytes behind them.
+/// Adds the words of whole groups of eight bytes. Returns the bytes after them.
 fn push_eights<'a>(words: &mut WordBuf, bytes: &'a [u8]) -> &'a [u8]
     requires { length words.old.words + length (packed bytes.now) ≤ words.old.capacity }
     ensures words { words.new.words ++ packed result.now ≡ words.old.words ++ packed bytes.now }

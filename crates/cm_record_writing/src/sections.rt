@@ -1,4 +1,4 @@
-//! The sections of a record, each added behind the words so far.
+//! The sections of a record, each added after the words so far.
 ghost use Rattle.std.specs.Prelude.{◌≡◌, ◌≤◌, ◌<◌, ◌+◌, ◌*◌, ◌^◌, ◌++◌, length};
 ghost use Rattle.std.specs.List.{AllByRecursion};
 ghost use Rattle.cm_class.specs.Spelling.{MemberFits};
@@ -20,7 +20,7 @@ fn utf8_word(at: u64, bytes: &[u8]) -> u64
     u64::from(Kind::Utf8.tag()) + SECOND * bytes.len() as u64 + THIRD * at
 }
 
-/// Adds a constant's words in the directory, where its run begins at `at`.
+/// Adds a constant's words in the directory, if its run begins at `at`.
 fn push_constant(words: &mut WordBuf, at: u64, constant: &Constant<Bytes>)
     requires short { at + length (constant_run constant.now) ≤ limit }
     requires room { length words.old.words + length (constant_words at constant.now)
@@ -58,7 +58,7 @@ pub(crate) fn slot_run_words(slot: &Slot) -> u64
     }
 }
 
-/// Adds the slots' words in the directory, where the first run begins at `at`.
+/// Adds the slots' words in the directory, if the first run begins at `at`.
 pub(crate) fn push_directory(words: &mut WordBuf, at: u64, slots: &[Slot])
     requires short { at + length (utf8_runs slots.now) ≤ limit }
     requires room { length words.old.words + length (directory at slots.now) ≤ words.old.capacity }
@@ -87,7 +87,7 @@ pub(crate) fn push_utf8_runs(words: &mut WordBuf, slots: &[Slot])
     }
 }
 
-/// Adds the interfaces, a word each.
+/// Adds the interfaces, one word each.
 pub(crate) fn push_interfaces(words: &mut WordBuf, interfaces: &[u16])
     requires { length words.old.words + length interfaces.now ≤ words.old.capacity }
     ensures words { words.new.words ≡ words.old.words ++ interfaces.now }
@@ -98,8 +98,8 @@ pub(crate) fn push_interfaces(words: &mut WordBuf, interfaces: &[u16])
     }
 }
 
-/// Adds members, where the attributes of the first begin at `at`. It gives where those of the next
-/// would.
+/// Adds members; the attributes of the first begin at `at`. Returns where those of the next member
+/// would begin.
 pub(crate) fn push_members(words: &mut WordBuf, at: u64, these: &[Member]) -> u64
     requires fit { AllByRecursion MemberFits these.now }
     requires short { at + 2 * length (member_attributes these.now) ≤ limit }
@@ -135,8 +135,8 @@ fn attribute_word(attribute: &Attribute) -> u64
     u64::from(attribute.name) + THIRD * attribute.content().len() as u64
 }
 
-/// Adds attributes, where the run of the first begins at `at`. It gives where that of the next
-/// would.
+/// Adds attributes; the run of the first begins at `at`. Returns where the run of the next one
+/// would begin.
 pub(crate) fn push_attributes(words: &mut WordBuf, at: u64, these: &Attributes) -> u64
     requires short { at + length (attribute_runs these.now) ≤ limit }
     requires room { length words.old.words + length (attributes at these.now) ≤ words.old.capacity }

@@ -11,7 +11,7 @@ use cm_class::Class;
 use cm_words::WordBuf;
 use std::alloc::{AllocError, Global};
 
-/// The words of a class's layout. All the room for them is taken at once.
+/// The words of a class's layout. All the room for them is allocated at once.
 fn words_of_class(alloc: Global, class: &Class, places: &Places) -> Result<WordBuf, AllocError>
     requires places { ArePlaces class.now places.now }
     requires spelled { HasSpelling class.now }
@@ -25,8 +25,8 @@ fn words_of_class(alloc: Global, class: &Class, places: &Places) -> Result<WordB
     Ok(words)
 }
 
-/// The words of the class's record, in a buffer that has room for no more. `TooLong` comes exactly
-/// where there are more than 524,288.
+/// The words of the class's record, in a buffer that has room for no more. Returns `TooLong`
+/// exactly if there are more than 524,288.
 pub fn write_class(alloc: Global, class: &Class) -> Result<WordBuf, RecordRefusal>
     ensures ok { IfOk result (λ words. words.words ≡ lay class.now) }
     ensures record { IfOk result (λ words. IsRecordOf class.now words.words) }

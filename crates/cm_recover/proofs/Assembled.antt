@@ -1,4 +1,4 @@
--- A file in memory, put together out of what was found and the records that were read.
+-- A file in memory, built from what was found and the records that were read.
 -- For `read_standing`.
 use Rattle.std.proofs.Common.{◌≡◌, ℕ, List, [], Ok, length, ◌∙◌}
 use Rattle.std.specs.Arc.{arc_value}
@@ -12,10 +12,10 @@ use Rattle.cm_verdict.specs.Found.{Found, found_in}
 use Rattle.cm_verdict.specs.Verdict.{standing, classes_found, verdict}
 use Rattle.cm_recover.specs.declared.standing.StandingFile.{StandingFile}
 use Rattle.cm_recover.specs.Opening.{other_is_open}
-use Rattle.cm_recover.specs.Standing.{Tells, AreRecorded, IsStanding}
+use Rattle.cm_recover.specs.Standing.{ReportsOk, AreRecorded, IsStanding}
 use Rattle.cm_recover.proofs.Verdicts.{stands_for}
 
--- what is put together of what was found and of rows
+-- what is built from what was found and from rows
 pub record IsMadeOf (contents : List ℕ) (file : StandingFile) (f : Found)
     (rows : LiveRows (List ℕ)) : Type 0 where
   pub geometry : file.journal.geometry ≡ f.sizes
@@ -38,8 +38,8 @@ same_classes sizes now contents more rows same is = λ i. classes_found sizes (s
 
 pub assembled : (contents : List ℕ) (file : StandingFile) (f : Found) (rows : LiveRows (List ℕ))
     → found_in contents ≡ Ok f
-    → Tells (AreRecorded f.sizes) (classes_found f.sizes contents [] f.rows) rows
-    → IsMadeOf contents file f rows → Tells (IsStanding contents) (verdict contents) file
+    → ReportsOk (AreRecorded f.sizes) (classes_found f.sizes contents [] f.rows) rows
+    → IsMadeOf contents file f rows → ReportsOk (IsStanding contents) (verdict contents) file
 assembled contents file f rows found t made = record {
   told = standing f t.told;
   verdict_is = stands_for contents f found t.told t.verdict_is;

@@ -130,7 +130,7 @@ new_is_empty sizes g = record {
   arenas_are = refl;
 }
 
--- its half is of the version that is written now
+-- a new file's half is of the version that is written now
 pub new_is_newest : NewIsNewest
 unfolding framed
 new_is_newest sizes g =
@@ -156,7 +156,7 @@ gate_open sizes =
     ∙ get_or-append_right (blank superblock_zeros) (165 ∷ []) 4071 4071 0
     (length-blank superblock_zeros) (omega arith))
 
--- a place that is set twice
+-- setting a place twice
 set_twice : (bytes : List ℕ) (at a b : ℕ) → at < length bytes
     → set (set bytes at a) at b ≡ set bytes at b
 set_twice bytes at a b inside =
@@ -212,7 +212,7 @@ gate_turns sizes g = record {
   last = subst (IsEmptyCache sizes) (sym (opened sizes g)) (new_is_empty sizes g);
 }
 
--- before the gate is written, it is no cache
+-- before the gate is written, the file is no cache
 pub shut_new : (sizes : Sizes) → IsGeometry sizes → IsNoCache (shut_bytes sizes)
 shut_new sizes g =
     shut_is_no_cache (shut_bytes sizes)
@@ -220,7 +220,7 @@ shut_new sizes g =
     get_or-set_same (new_bytes sizes) 4095 0 0 (gate_inside sizes g) in
     omega (arith, sym zero ∙ gate))
 
--- ---- its bytes as they are put together: the superblock, the head, filled up with zeros
+-- ---- its bytes as they are built: the superblock, the head, then zeros
 
 pub put_together : (sizes : Sizes) → IsGeometry sizes → (size n head_size : ℕ)
     (block front all : List ℕ)

@@ -9,7 +9,7 @@ use Rattle.cm_guards.proofs.{turned}
 use Rattle.cm_recover.specs.NewFile.{new_bytes, shut_bytes, IsNoCache, IsEmptyCache}
 use Rattle.cm_recover.proofs.Empty.{gate_turns, shut_new, opened, length-shut}
 
--- where the file stands, shut
+-- if the file is there, shut
 pub turns_here : (sizes : Sizes) → IsGeometry sizes → (base : List ℕ) → base ≡ shut_bytes sizes
     → Turns IsNoCache (IsEmptyCache sizes) 4095 165 base
 turns_here sizes g base is =

@@ -18,7 +18,7 @@ use Rattle.cm_verdict.specs.declared.fault.FileFault.TheVariants.{NotACache, Dam
 use Rattle.cm_verdict.specs.Faults.{◌>>=◌}
 use Rattle.cm_verdict.specs.Walk.{Walked}
 use Rattle.cm_verdict.specs.Found.{counting_half, walk_through, found_walked, half_in, head_in}
-use Rattle.cm_verdict.specs.Found.{Found, sizes_found, found_in, Begins}
+use Rattle.cm_verdict.specs.Found.{Found, sizes_found, found_in, FileBegins}
 use Rattle.cm_verdict.proofs.{begun_with, half_within, part_long}
 use Rattle.cm_recover.specs.declared.fault.OpenFault.{OpenFault}
 use Rattle.cm_recover.specs.declared.fault.OpenFault.TheVariants as open_fault
@@ -26,7 +26,7 @@ use Rattle.cm_recover.specs.declared.reading.FoundFile.{FoundFile}
 use Rattle.cm_recover.specs.Opening.{fault_of, IsFaultIn, IsAnswer, half_of, found_in_halves}
 use Rattle.cm_recover.specs.Opening.{found_of, other_is_open}
 
--- a fault of the verdict is told as it is
+-- a fault of the verdict is returned unchanged
 pub fault_answers : {B : Type 0} (f : FileFault) (verdict : Result B FileFault) → verdict ≡ Err f
     → IsFaultIn (fault_of f) verdict
 fault_answers NotACache verdict e = e
@@ -107,7 +107,7 @@ sizes_fault (open_fault.Damaged what slot) contents told =
 sizes_fault open_fault.Device contents told = tt
 sizes_fault open_fault.NoMemory contents told = tt
 
--- so it is answered
+-- this is the fault returned
 pub sizes_told : (r : Result FoundFile OpenFault) (e : OpenFault) (contents : List ℕ)
     → IsErrAnd r (λ f. f ≡ e) → IsFaultIn e (sizes_found (length contents) (take 4096 contents))
     → IsAnswer found_of r (found_in contents)
@@ -116,11 +116,11 @@ sizes_told (Err f) e contents same told =
     subst (λ (g : OpenFault). IsFaultIn g (found_in contents)) (sym same)
     (sizes_fault e contents told)
 
--- ---- its halves, as they are read: where n slots lie from a place on
+-- ---- its halves, as they are read: n slots from a place on
 
 module _ (contents : List ℕ) (sizes : Sizes)
     (e : sizes_found (length contents) (take 4096 contents) ≡ Ok sizes) where
-  begins : Begins (length contents) (take 4096 contents) sizes
+  begins : FileBegins (length contents) (take 4096 contents) sizes
   begins = begun_with (length contents) (take 4096 contents) sizes e
 
   pub half_inside : (h : Half) (at n : ℕ) (now : List ℕ) → at ≡ half_at sizes h → n ≡ sizes.slots

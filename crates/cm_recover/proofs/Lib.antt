@@ -1,4 +1,4 @@
--- What crates above may cite of these proofs is what `pub use` passes on; all else is private.
+-- Crates above may cite only those of these proofs that `pub use` passes on; all else is private.
 mod Shut
 mod Empty
 mod Gate
@@ -14,7 +14,7 @@ mod Assembled
 mod SyncRuns
 mod Opened
 mod MovedOver
--- The verdict, step by step, and what is answered of it.
+-- The verdict, step by step, and the result for it.
 pub use Verdicts.{fault_told}
--- What a file stands for has what the accepted cache and its committer are made of.
+-- What a file stands for has all that the accepted cache and its committer are made from.
 pub use Opened.{are_short, opened}

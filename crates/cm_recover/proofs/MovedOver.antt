@@ -1,5 +1,5 @@
--- A file is synced and read, and moved over where it is of an older version.
--- For `move_over`, `open`.
+-- A file is synced and read, and upgraded if it is of version 1.
+-- For `upgrade`, `open`.
 use Rattle.std.proofs.Common.{◌≡◌, ℕ, List, inl, inr, sym, ap, subst, ◌∙◌, arith}
 use Rattle.cm_disk.specs.Disk.{View, IsImage}
 use Rattle.cm_guards.specs.Calls.{LeavesOnly}
@@ -8,7 +8,7 @@ use Rattle.cm_recover.specs.Opened.{SyncsAndReads, OpensThrough, IsOlderFile, St
 use Rattle.cm_recover.specs.Opened.{LeavesSame, TellsDevice}
 
 module _ {D : Type 0} (view : View D) where
-  -- a file that isn't moved over
+  -- a file that isn't upgraded
   pub reads_through : (old new : D) (F : Type 0) → SyncsAndReads view old new F
       → OpensThrough view old new F
   reads_through old new F run = record {
@@ -20,7 +20,7 @@ module _ {D : Type 0} (view : View D) where
     no_cause = run.no_cause;
   }
 
-  -- one that may be, after it was read
+  -- a file that may be upgraded, after it was read
   pub moves_through : (old mid new : D) (F G : Type 0) → (F → ⊥) → SyncsAndReads view old mid F
       → ((IsOlderFile (view.contents mid) → ⊥) → new ≡ mid)
       → LeavesOnly view mid new (StandsForSame (view.contents mid))
@@ -53,7 +53,7 @@ module _ {D : Type 0} (view : View D) where
     no_cause = λ never. cause.no_cause never ∙ run.no_cause none;
   }
 
-  -- it is told by another result
+  -- the same, with the fault in another result
   pub through_as : (old new : D) (F G : Type 0) → (F → G) → (G → F) → OpensThrough view old new F
       → OpensThrough view old new G
   through_as old new F G to from through = record {
@@ -73,7 +73,7 @@ module _ {D : Type 0} (view : View D) where
     no_cause = λ none. through.no_cause (λ f. none (to f));
   }
 
-  -- both, where another result tells of it, over the same disk
+  -- both, with the fault in another result, over the same disk
   pub then_through : (old mid new end : D) (F G H : Type 0) → (F → ⊥)
       → SyncsAndReads view old mid F
       → ((IsOlderFile (view.contents mid) → ⊥) → new ≡ mid)

@@ -1,4 +1,4 @@
--- What a file stands for has what the accepted cache and its committer are made of.
+-- What a file stands for has all that the accepted cache and its committer are made from.
 -- For `open` and others.
 use Rattle.std.proofs.Common.{◌≡◌, ℕ, ◌+◌, ◌^◌, ◌<◌, ◌≤◌, Bool, true, false, cond, List, [], ◌∷◌}
 use Rattle.std.proofs.Common.{◌++◌, length, drop, Some, None, Ok, refl, sym, ap, subst, ◌∙◌}
@@ -23,7 +23,7 @@ use Rattle.cm_layout.specs.declared.class_row.ClassRow.{ClassRow}
 use Rattle.cm_layout.specs.Rows.{rows_with, row_with, bare, classes_in}
 use Rattle.cm_layout.specs.Frames.{BareRow, LiveRowsKeep, HoldsRow, IsGoodHead, entry_version}
 use Rattle.cm_layout.specs.Laws.{IsFramed as FramesRows}
-use Rattle.cm_layout.specs.Framing.{IsRight, Matches}
+use Rattle.cm_layout.specs.Framing.{IsRightFraming, Matches}
 use Rattle.cm_commit.proofs.{end_is as ends_with_slots, shows_cache}
 use Rattle.cm_state.specs.State.{NamesDiffer, class_shows, words_show, class_among}
 use Rattle.cm_state.specs.Stands.{EachKeepsRules, arenas_among, chunks_of as chunks_begun}
@@ -35,9 +35,9 @@ use Rattle.cm_verdict.specs.Laws.{FoundIsLive, FoundIsFramed, VerdictStands, Pro
 use Rattle.cm_verdict.specs.Laws.{IsLive}
 use Rattle.cm_verdict.proofs.{bare_words}
 use Rattle.std.specs.Arc.{arc_value}
-use Rattle.cm_disk.specs.Disk.{Unsynced, IsSettled}
+use Rattle.cm_disk.specs.Disk.{Unsynced, IsDurable}
 use Rattle.cm_rows.specs.Rows.{LiveRows}
-use Rattle.cm_commit.specs.declared.journal.Journal.{Journal}
+use Rattle.cm_commit.specs.declared.journal_end.JournalEnd.{JournalEnd}
 use Rattle.cm_commit.specs.GroupPlans.{whole_roots}
 use Rattle.cm_commit.specs.Committed.{journal_of}
 use Rattle.cm_commit.specs.Checkpoints.{renewed_journal}
@@ -52,8 +52,8 @@ use Rattle.cm_front.specs.Front.{FrontState, IsFront}
 use Rattle.cm_front.specs.Arenas.{ArenasAreOfRows, chunks_owned}
 use Rattle.cm_front.specs.Restoring.{Restores}
 use Rattle.cm_recover.specs.declared.standing.StandingFile.{StandingFile}
-use Rattle.cm_recover.specs.Standing.{TellNames, Tells, IsStanding}
-use Rattle.cm_recover.specs.Opened.{Opens, arenas_by_name, AreShort, IsOpened, found_journal}
+use Rattle.cm_recover.specs.Standing.{TellNames, ReportsOk, IsStanding}
+use Rattle.cm_recover.specs.Opened.{Opens, arenas_by_name, AreShort, OpensStanding, found_journal}
 use Rattle.cm_recover.specs.Opened.{is_older, opened_journal, IsOlderFile, StandsForSame}
 use Rattle.cm_recover.proofs.RecordPlaces.{place_of, short_enough}
 use Rattle.cm_recover.proofs.Passing.{more_named}
@@ -90,13 +90,13 @@ are_right (Class r c ∷ rows) kept = ((c, kept.0, refl), are_right rows kept.1)
 
 -- ---- arenas
 
--- the places of classes don't go by what is kept of them
+-- the places of classes don't depend on what is kept of them
 same_places : (rows : List (Row ClassFile)) → classes_in (rows_with lay rows) ≡ classes_in rows
 same_places [] = refl
 same_places (Loader r ∷ rows) = same_places rows
 same_places (Class r c ∷ rows) = ap (λ l. r ∷ l) (same_places rows)
 
--- arenas by their loaders' names, where they are those of the loaders' numbers
+-- arenas by their loaders' names, given that they are those of the loaders' numbers
 arenas_told : (front : FrontState) (classes : List ClassRow)
     → ((u : ℕ) → chunks_owned front u ≡ chunks_begun u classes) → (rows : List (Row ClassFile))
     → arenas_by_name rows front ≡ arenas_among classes rows
@@ -167,9 +167,9 @@ module _ (live : FoundIsLive) (framed : FoundIsFramed) (stands : VerdictStands)
   abbrev l : IsLive contents found
   l = live contents found p.found
 
-  right_here : IsRight found.sizes b.framing (rows_with lay s.rows) found.number
+  right_here : IsRightFraming found.sizes b.framing (rows_with lay s.rows) found.number
   right_here =
-      subst (λ (rows : List (Row (List ℕ))). IsRight found.sizes b.framing rows found.number)
+      subst (λ (rows : List (Row (List ℕ))). IsRightFraming found.sizes b.framing rows found.number)
       (sym p.words) b.right
 
   match_here : Matches found.sizes b.framing (rows_with lay s.rows) contents
@@ -190,7 +190,7 @@ module _ (live : FoundIsLive) (framed : FoundIsFramed) (stands : VerdictStands)
       (rows_with lay s.rows) live_here
       match_here.records)
 
-  pub opened : IsOpened contents s (rows_with lay s.rows)
+  pub opened : OpensStanding contents s (rows_with lay s.rows)
   opened = record {
     framing = b.framing;
     counting_is = b.counting_is;
@@ -216,11 +216,11 @@ module _ (live : FoundIsLive) (framed : FoundIsFramed) (stands : VerdictStands)
 module _ (live : FoundIsLive) (framed : FoundIsFramed) (stands : VerdictStands)
     (tells : WordsTellName) (others : OthersAreTold)
     (contents : List ℕ) (file : StandingFile)
-    (t : Tells (IsStanding contents) (verdict contents) file) where
+    (t : ReportsOk (IsStanding contents) (verdict contents) file) where
   abbrev told : Standing
   told = t.told
 
-  o : IsOpened contents told (rows_with lay told.rows)
+  o : OpensStanding contents told (rows_with lay told.rows)
   o = opened live framed stands tells contents told t.verdict_is
 
   pub front_rows : AreCacheRows words_show file.rows.sizes file.journal.number file.rows.rows
@@ -236,7 +236,7 @@ module _ (live : FoundIsLive) (framed : FoundIsFramed) (stands : VerdictStands)
   pub front_last : file.journal.number ≤ 2 ^ 63
   front_last = let n = t.alike.number in omega (arith, n, o.number_is)
 
-  abbrev journal_told : Journal
+  abbrev journal_told : JournalEnd
   journal_told = found_journal contents told
 
   pub journal_is : file.journal ≡ journal_told
@@ -249,7 +249,7 @@ module _ (live : FoundIsLive) (framed : FoundIsFramed) (stands : VerdictStands)
     number = t.alike.number i;
   }
 
-  -- the other half's gate is told by what stands there
+  -- the byte at the other half's gate says whether it is open
   goes_on : journal_told ≡ journal_of (record {
     sizes = told.found.sizes;
     rows = rows_with lay told.rows;
@@ -276,15 +276,15 @@ module _ (live : FoundIsLive) (framed : FoundIsFramed) (stands : VerdictStands)
       }
 
   pub held : (version : ℕ) → told.found.head.version ≡ version → (now : List ℕ)
-      (unsynced : Unsynced) → IsSettled now unsynced → now ≡ contents
+      (unsynced : Unsynced) → IsDurable now unsynced → now ≡ contents
       → IsHeld now unsynced file.journal (rows_with arc_value file.committed.rows) file.roots
       version
-  held version version_is now unsynced settled same =
+  held version version_is now unsynced durable same =
       rw (t.alike.committed, t.alike.roots)
-      (subst (λ (j : Journal). IsHeld now unsynced j (rows_with lay told.rows)
+      (subst (λ (j : JournalEnd). IsHeld now unsynced j (rows_with lay told.rows)
       (whole_roots told.found.sizes (length contents)) version) (sym journal_is)
       (record {
-        settled = settled;
+        durable = durable;
         framing = o.framing;
         version_is = ap (λ (h : HalfHead). h.version) o.head_is ∙ version_is;
         journal_is = goes_on;
@@ -302,7 +302,7 @@ module _ (live : FoundIsLive) (framed : FoundIsFramed) (stands : VerdictStands)
   head_good : IsGoodHead told.found.sizes told.found.head
   head_good = subst (IsGoodHead told.found.sizes) o.head_is o.right.good.head
 
-  -- where it is the one that is written now, the journal goes on as it was found
+  -- if the version is the one written now, the journal continues as it was found
   pub version_now : 2 ≤ file.version
       → (told.found.head.version ≡ entry_version) × (file.journal ≡ opened_journal contents told)
   version_now least =
@@ -326,15 +326,15 @@ module _ (live : FoundIsLive) (framed : FoundIsFramed) (stands : VerdictStands)
     pub older_file : IsOlderFile contents
     older_file = record { standing = told; verdict_is = t.verdict_is; older = older }
 
-    pub may_renew : (unsynced : Unsynced) → IsSettled contents unsynced
+    pub may_renew : (unsynced : Unsynced) → IsDurable contents unsynced
         → MayRenew contents unsynced file.journal (rows_with arc_value file.committed.rows)
-    may_renew unsynced settled = record {
+    may_renew unsynced durable = record {
       version = told.found.head.version;
       held = subst (λ (roots : ℕ). IsHeld contents unsynced file.journal
           (rows_with arc_value file.committed.rows) roots told.found.head.version)
           (t.alike.roots
           ∙ ap (λ (z : Sizes). whole_roots z (length contents)) (sym t.alike.geometry))
-          (held told.found.head.version refl contents unsynced settled refl);
+          (held told.found.head.version refl contents unsynced durable refl);
       epoch =
           let less = ltb-true told.found.head.version 2 older in
           let epoch = t.alike.epoch in
@@ -346,7 +346,7 @@ module _ (live : FoundIsLive) (framed : FoundIsFramed) (stands : VerdictStands)
           omega (arith, less, epoch, number, base, last, most);
     }
 
-    pub renewed_told : (j : Journal)
+    pub renewed_told : (j : JournalEnd)
         → j ≡ renewed_journal file.journal (bare (rows_with arc_value file.committed.rows))
         → j ≡ opened_journal contents told
     renewed_told j is =
@@ -355,7 +355,7 @@ module _ (live : FoundIsLive) (framed : FoundIsFramed) (stands : VerdictStands)
         ∙ ap (λ (b : Bool). cond b (renewed_journal journal_told (bare (rows_with lay told.rows)))
         journal_told) (sym older))
 
-    pub roots_told : (now : List ℕ) (unsynced : Unsynced) (j : Journal)
+    pub roots_told : (now : List ℕ) (unsynced : Unsynced) (j : JournalEnd)
         → IsHeld now unsynced j (rows_with arc_value file.committed.rows)
         (whole_roots file.journal.geometry (length contents)) entry_version
         → IsHeld now unsynced j (rows_with arc_value file.committed.rows) file.roots entry_version
@@ -385,7 +385,7 @@ module _ (live : FoundIsLive) (framed : FoundIsFramed) (stands : VerdictStands)
             here.matches;
       }
 
-  -- and so do the contents themselves
+  -- the contents themselves stand for the same cache
   pub framed_here : StandsForSame contents contents
   framed_here =
       let here : FramesRows told.found.sizes contents (rows_with lay told.rows)
@@ -397,7 +397,7 @@ module _ (live : FoundIsLive) (framed : FoundIsFramed) (stands : VerdictStands)
   -- ---- once it is opened
 
   pub opens : {D : Type 0} (arenas : ArenasAreOfRows) (disk : D) (front : FrontState)
-      (committer : CommitterState D) (journal : Journal) → IsFront front
+      (committer : CommitterState D) (journal : JournalEnd) → IsFront front
       → Restores file.rows file.journal.number front
       → journal ≡ opened_journal contents told
       → committer ≡ record {
@@ -431,9 +431,9 @@ module _ (live : FoundIsLive) (framed : FoundIsFramed) (stands : VerdictStands)
         ∙ ap (chunks_begun u) (same_places told.rows)))) told.rows;
     committer_is = made ∙ (λ i. record {
       disk = sym (ap (λ (c : CommitterState D). c.disk) made) i;
-      sizes = (ap (λ (j : Journal). j.geometry) goes ∙ same_region) i;
+      sizes = (ap (λ (j : JournalEnd). j.geometry) goes ∙ same_region) i;
       rows = t.alike.committed i;
-      number = (ap (λ (j : Journal). j.number) goes ∙ same_number) i;
+      number = (ap (λ (j : JournalEnd). j.number) goes ∙ same_number) i;
       half = (goes i).half;
       end = (goes i).end;
       epoch = (goes i).epoch;
@@ -457,24 +457,24 @@ module _ (live : FoundIsLive) (framed : FoundIsFramed) (stands : VerdictStands)
       same_number : (opened_journal contents told).number ≡ told.found.number
       same_number = (by_test (is_older told)).1
 
-  pub sizes_told : (journal : Journal) → journal ≡ opened_journal contents told
+  pub sizes_told : (journal : JournalEnd) → journal ≡ opened_journal contents told
       → file.committed.sizes ≡ journal.geometry
   sizes_told journal goes =
       t.alike.committed_sizes
-      ∙ sym (ap (λ (j : Journal). j.geometry) goes ∙ by_test (is_older told))
+      ∙ sym (ap (λ (j : JournalEnd). j.geometry) goes ∙ by_test (is_older told))
     where
       by_test : (b : Bool) → (cond b (renewed_journal journal_told
           (bare (rows_with lay told.rows))) journal_told).geometry ≡ told.found.sizes
       by_test true = refl
       by_test false = refl
 
--- where the journal goes on, said of contents that are the same
+-- where the journal continues, for contents that are the same
 pub journal_same : (mid contents : List ℕ) → mid ≡ contents → (file : StandingFile)
-    (t : Tells (IsStanding contents) (verdict contents) file) (journal : Journal)
-    → ((u : Tells (IsStanding mid) (verdict mid) file) → journal ≡ opened_journal mid u.told)
+    (t : ReportsOk (IsStanding contents) (verdict contents) file) (journal : JournalEnd)
+    → ((u : ReportsOk (IsStanding mid) (verdict mid) file) → journal ≡ opened_journal mid u.told)
     → journal ≡ opened_journal contents t.told
 journal_same mid contents same file t journal goes =
-    subst (λ (l : List ℕ). (u : Tells (IsStanding l) (verdict l) file)
+    subst (λ (l : List ℕ). (u : ReportsOk (IsStanding l) (verdict l) file)
     → journal ≡ opened_journal l u.told) same goes t
 
 -- what a crash leaves of a committer that was just opened

@@ -1,4 +1,4 @@
--- The second pass, row by row: what is still to be taken comes to what all rows do.
+-- The second pass, row by row: the rows still to be taken lead to the same result as all rows.
 -- For `SecondPass::take_all`, `SecondPass::take_class`, `SecondPass::take_row`.
 use Rattle.std.proofs.Common.{◌≡◌, ℕ, Bool, true, false, cond, List, [], ◌∷◌, ◌++◌, length}
 use Rattle.std.proofs.Common.{Option, Some, None, Ok, Err, refl, sym, ap, subst, ◌∙◌, eqb}
@@ -34,7 +34,7 @@ use Rattle.cm_verdict.proofs.{live_rule_bare}
 use Rattle.cm_recover.specs.declared.fault.OpenFault.{OpenFault}
 use Rattle.cm_recover.specs.declared.fault.OpenFault.TheVariants as open_fault
 use Rattle.cm_recover.specs.Opening.{IsFaultIn}
-use Rattle.cm_recover.specs.Standing.{Tells, if_class, class_in_place, IsRecorded}
+use Rattle.cm_recover.specs.Standing.{ReportsOk, if_class, class_in_place, IsRecorded}
 use Rattle.cm_recover.specs.Standing.{TellNames, AreRecorded, bare_of, MayFollow, row_found}
 use Rattle.cm_recover.proofs.Verdicts.{through}
 
@@ -92,7 +92,7 @@ more_named [] row named one = one
 more_named (Loader r ∷ rows) row named one = more_named rows row named one
 more_named (Class r c ∷ rows) row named one = (named.0, more_named rows row named.1 one)
 
--- one row more
+-- one more row
 pub recorded_more : (sizes : Sizes) (rows new : LiveRows (List ℕ)) (before : List (Row ClassFile))
     (row : Row ClassFile) (words : Row (List ℕ)) → AreRecorded sizes rows before
     → words ≡ row_with lay row → TellNames (row ∷ [])
@@ -116,7 +116,7 @@ same_fault {A} {B} f g e =
     let same : f ≡ g = cc in
     ap (λ (h : FileFault). fails {B = B} h) same
 
--- a fault that is told of one thing is told of another
+-- a fault of one thing is also a fault of another
 carried : {A B : Type 0} (e : OpenFault) (slot : ℕ) (x : Result A Damage) (y : Result B FileFault)
     → ((d : Damage) → x ≡ Err d → y ≡ Err (Damaged d slot)) → IsFaultIn e (at_slot slot x)
     → IsFaultIn e y
@@ -163,7 +163,7 @@ unslotted : {A : Type 0} (slot : ℕ) (r : Result A Damage) (x : A) → at_slot 
 unslotted slot (Ok d) x e = cc
 unslotted slot (Err what) x e = absurd (cc)
 
--- the class of the place is taken, where its name is new
+-- the class at the place is taken, if its name is new
 abbrev named_class : List (Row ClassFile) → ClassRow → ClassFile → Result ClassFile Damage
 named_class before r c =
     cond (is_none (class_among class_shows r.loader (class_name_of c) before)) (Ok c)
@@ -233,7 +233,7 @@ keeps_rule sizes number taken row follows =
 pub took_loader : (sizes : Sizes) (contents : List ℕ) (rows new : LiveRows (List ℕ))
     (before : List (Row ClassFile)) (r : LoaderRow) → AreRecorded sizes rows before
     → new ≡ record rows { rows = rows.rows ++ Loader r ∷ [] }
-    → Tells (λ (u : Unit {0}). AreRecorded sizes new)
+    → ReportsOk (λ (u : Unit {0}). AreRecorded sizes new)
     (row_found sizes contents before (Loader r)) tt
 took_loader sizes contents rows new before r are is = record {
   told = before ++ Loader r ∷ [];
@@ -243,7 +243,7 @@ took_loader sizes contents rows new before r are is = record {
 
 module _ (sizes : Sizes) (contents : List ℕ) (rows : LiveRows (List ℕ))
     (before : List (Row ClassFile)) (are : AreRecorded sizes rows before) (r : ClassRow) (slot : ℕ)
-    (words : List ℕ) (t : Tells IsRecorded
+    (words : List ℕ) (t : ReportsOk IsRecorded
     (at_slot slot (class_in_place sizes contents r.place)) words)
   where
     name_same : (b : Bool)
@@ -262,7 +262,7 @@ module _ (sizes : Sizes) (contents : List ℕ) (rows : LiveRows (List ℕ))
     pub took_class : (b : Bool) (new : LiveRows (List ℕ))
         → b ≡ is_some (class_of class_name_in r.loader (class_name_in words) rows.rows) → b ≡ false
         → new ≡ record rows { rows = rows.rows ++ Class r words ∷ [] }
-        → Tells (λ (u : Unit {0}). AreRecorded sizes new)
+        → ReportsOk (λ (u : Unit {0}). AreRecorded sizes new)
         (row_found sizes contents before (Class r (record { slot = slot }))) tt
     took_class b new has is pushed = record {
       told = before ++ Class r t.told ∷ [];
@@ -354,7 +354,8 @@ module _ (sizes : Sizes) (contents : List ℕ) (number : ℕ) (all rest : List (
       (λ b. classes_found sizes contents b rest) told)
 
   pub passing_on : (new : LiveRows (List ℕ))
-      → Tells (λ (u : Unit {0}). AreRecorded sizes new) (row_found sizes contents p.taken row) tt
+      → ReportsOk (λ (u : Unit {0}). AreRecorded sizes new) (row_found sizes contents p.taken row)
+      tt
       → IsPassing sizes contents number all rest new
   passing_on new t = record {
     taken = t.told;
@@ -372,7 +373,7 @@ module _ (sizes : Sizes) (contents : List ℕ) (number : ℕ) (all rest : List (
 pub passing_ends : (sizes : Sizes) (contents : List ℕ) (number : ℕ)
     (all rest : List (Row DefinedAt))
     (rows : LiveRows (List ℕ)) → rest ≡ [] → IsPassing sizes contents number all rest rows
-    → Tells (AreRecorded sizes) (classes_found sizes contents [] all) rows
+    → ReportsOk (AreRecorded sizes) (classes_found sizes contents [] all) rows
 unfolding classes_found
 passing_ends sizes contents number all rest rows none p = record {
   told = p.taken;

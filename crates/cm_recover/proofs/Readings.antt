@@ -1,4 +1,4 @@
--- Runs of reads, one behind the other, where the last one's fault is told.
+-- Runs of reads, one after the other, where the fault of the last one is returned.
 -- For `SecondPass::take_all`, `read_found`, `read_standing`.
 use Rattle.std.proofs.Common.{◌≡◌, Ok, Err, inr, ◌⊎◌, ⊎_elim}
 use Rattle.std.specs.Prelude.{Result, IsErr, IsErrAnd}
@@ -7,7 +7,7 @@ use Rattle.cm_guards.specs.Calls.{Reads}
 use Rattle.cm_guards.proofs.{reads_on, reads_as}
 use Rattle.cm_recover.specs.declared.fault.OpenFault.{OpenFault}
 
--- what is answered is no fault then
+-- the result is no fault then
 pub ok_no_fault : {A : Type 0} (r : Result A OpenFault) (x : A) (f : OpenFault) → r ≡ Ok x
     → r ≡ Err f
     → ⊥
@@ -26,7 +26,7 @@ module _ {D : Type 0} (view : View D) where
       (λ faulted. ⊎_elim (λ f. absurd (none f)) (λ g. g) faulted)
       (reads_on view a b c F G first second)
 
-  -- where it can't fail any more
+  -- if nothing can fail any more
   pub no_more : (a b : D) (F G : Type 0) → (G → ⊥) → (F → ⊥)
       → Reads view a b F
       → Reads view a b G

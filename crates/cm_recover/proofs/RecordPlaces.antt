@@ -24,7 +24,7 @@ use Rattle.cm_verdict.specs.Faults.{at_slot}
 use Rattle.cm_verdict.specs.Verdict.{class_kept, words_at}
 use Rattle.cm_verdict.specs.Kept.{IsKeptRecord}
 use Rattle.cm_verdict.proofs.{is_kept}
-use Rattle.cm_recover.specs.Standing.{IsPlace, Tells, if_class, class_in_place, IsRecorded}
+use Rattle.cm_recover.specs.Standing.{IsPlace, ReportsOk, if_class, class_in_place, IsRecorded}
 use Rattle.cm_recover.specs.Standing.{IsKeptClass}
 
 -- the place of a row that keeps the rules
@@ -54,13 +54,13 @@ in_file sizes place long is whole =
     }) in
     omega (arith, ends, whole)
 
--- no record is longer than any may be
+-- no record is longer than the limit
 pub short_enough : (sizes : Sizes) (place : Place) → IsPlace sizes place → place.words ≤ limit
 short_enough sizes place is =
     let size : 2 ^ sizes.top ≤ 2 ^ 12 = pow-le-pow_right {n = 2} (omega arith) is.lawful.top_to in
     omega (arith, size, is.chunk, is.words)
 
--- ---- the class of a place
+-- ---- the class at a place
 
 pub not_whole : (sizes : Sizes) (contents : List ℕ) (place : Place) (slot : ℕ)
     → length contents < root_at sizes (place.chunk.root + 1)
@@ -84,7 +84,7 @@ module _ (sizes : Sizes) (contents : List ℕ) (place : Place) (slot : ℕ) (wor
       ap (at_slot slot) (by_words ∙ ap if_class none)
 
   pub class_there : (made : List ℕ) (k : IsKeptClass words (Some made))
-      → Tells IsRecorded (at_slot slot (class_in_place sizes contents place)) made
+      → ReportsOk IsRecorded (at_slot slot (class_in_place sizes contents place)) made
   class_there made k = record {
     told = k.0;
     verdict_is = ap (at_slot slot) (by_words ∙ ap if_class k.1);

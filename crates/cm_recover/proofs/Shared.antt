@@ -1,4 +1,4 @@
--- A row more in both books, whatever is kept of a class.
+-- One more row in both sets of rows, whatever is kept of a class.
 -- For `SharedRows::push_class`, `SharedRows::push_loader`.
 use Rattle.std.proofs.Common.{◌≡◌, ℕ, cond, [], ◌∷◌, ◌++◌, Option, None, is_none, sym, ap, ◌∙◌}
 use Rattle.std.proofs.lemmas.List.{map-append}

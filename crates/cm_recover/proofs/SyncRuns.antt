@@ -1,26 +1,26 @@
--- A sync, and reads behind it.
+-- A sync, followed by reads.
 -- For `read_synced`.
 use Rattle.std.proofs.Common.{◌≡◌, ℕ, Bool, true, false, List, length, get_or, refl}
 use Rattle.std.proofs.Common.{sym, ap, subst, ◌∙◌, arith}
 use Rattle.std.specs.Prelude.{Result, Ok, Err, IsOk, IsErr, OnOk, OnErr}
-use Rattle.cm_disk.specs.Disk.{OnlyNow, View, Unsynced, IsImage, IsSettled, IsSound, IsWithin}
+use Rattle.cm_disk.specs.Disk.{OnlyNow, View, Unsynced, IsImage, IsDurable, IsSound, IsWithin}
 use Rattle.cm_disk.specs.Calls.{Passes, SyncsOnce}
 use Rattle.cm_guards.specs.Calls.{LeavesOnly, Reads}
 use Rattle.cm_guards.proofs.{one_call, leaves_on, leaves_more}
 use Rattle.cm_recover.specs.Opened.{SyncsAndReads}
 
--- what is settled is within what any sound disk may have unsynced
-pub settled_within : (contents now : List ℕ) (old new : Unsynced) → IsSound contents old
-    → now ≡ contents → IsSettled now new → IsWithin old new
-settled_within contents now old new sound same settled = record {
-  positions = λ i here. let none = settled.none_open i in absurd (cc);
+-- what is durable is within what any sound disk may have unsynced
+pub durable_within : (contents now : List ℕ) (old new : Unsynced) → IsSound contents old
+    → now ≡ contents → IsDurable now new → IsWithin old new
+durable_within contents now old new sound same durable = record {
+  positions = λ i here. let none = durable.none_open i in absurd (cc);
   least =
       let long = ap length same in
-      let least = settled.least in
+      let least = durable.least in
       omega (arith, long, least, sound.least);
   greatest =
       let long = ap length same in
-      let greatest = settled.greatest in
+      let greatest = durable.greatest in
       omega (arith, long, greatest, sound.greatest);
 }
 
@@ -51,12 +51,12 @@ pub always_ok : {T E : Type 0} (r : Result T E) (P : Type 0) → P → OnOk r P
 always_ok (Ok x) P p = p
 always_ok (Err e) P p = tt
 
--- both still stand after reads
-pub settled_after : (mid now : List ℕ) (a b : Unsynced) → IsSettled mid a → now ≡ mid → b ≡ a
-    → IsSettled now b
-settled_after mid now a b settled same kept =
-    subst (λ (l : List ℕ). IsSettled l b) (sym same)
-    (subst (λ (u : Unsynced). IsSettled mid u) (sym kept) settled)
+-- what is durable is still durable after reads
+pub durable_after : (mid now : List ℕ) (a b : Unsynced) → IsDurable mid a → now ≡ mid → b ≡ a
+    → IsDurable now b
+durable_after mid now a b durable same kept =
+    subst (λ (l : List ℕ). IsDurable l b) (sym same)
+    (subst (λ (u : Unsynced). IsDurable mid u) (sym kept) durable)
 
 if_failed : {T E : Type 0} (r : Result T E) (e : E) (P : Type 0) → r ≡ Err e → OnErr r P → P
 if_failed (Ok x) e P failed p = absurd (cc)
@@ -76,7 +76,7 @@ module _ {D : Type 0} (view : View D) (only_now : OnlyNow view) (old mid : D) wh
   not_synced result e F sync failed told = record {
     contents_stay = sync.same;
     no_more = within_same (view.unsynced old) (view.unsynced mid)
-        (if_failed result e _ failed sync.not_settled);
+        (if_failed result e _ failed sync.not_durable);
     images = during sync.time;
     later = sync.cause.later;
     cause = λ f. sync.cause.fault (subst IsErr (sym failed) refl);
@@ -86,11 +86,11 @@ module _ {D : Type 0} (view : View D) (only_now : OnlyNow view) (old mid : D) wh
   -- a sync that is done, and reads
   pub synced : {T E : Type 0} (new : D) (result : Result T E) (F : Type 0)
       → IsSound (view.contents old) (view.unsynced old) → SyncsOnce view old mid result
-      → IsOk result → IsSettled (view.contents mid) (view.unsynced mid) → Reads view mid new F
+      → IsOk result → IsDurable (view.contents mid) (view.unsynced mid) → Reads view mid new F
       → SyncsAndReads view old new F
-  synced new result F sound sync done settled reads =
-      let within = settled_within (view.contents old) (view.contents mid) (view.unsynced old)
-      (view.unsynced mid) sound sync.same settled in
+  synced new result F sound sync done durable reads =
+      let within = durable_within (view.contents old) (view.contents mid) (view.unsynced old)
+      (view.unsynced mid) sound sync.same durable in
       record {
         contents_stay = reads.contents_stay ∙ sync.same;
         no_more = subst (IsWithin (view.unsynced old)) (sym reads.unsynced_stay) within;

@@ -1,10 +1,10 @@
--- What a crash may leave of a file until all but its gate is stored, and what it passes through.
+-- What a crash may leave of a file until all but its gate is durable, and what it passes through.
 -- For `NewFile::open`, `NewFile::store`, `format`.
 use Rattle.std.proofs.Common.{◌≡◌, ◌≤◌, ℕ, zero, suc, Bool, List, refl, ap, subst, inl, inr, arith}
 use Rattle.std.specs.Prelude.{max, Result, Ok, Err, IsErr, is_ok}
 use Rattle.cm_pool.specs.Geometry.{Sizes}
 use Rattle.cm_layout.specs.Offsets.{roots_at}
-use Rattle.cm_disk.specs.Disk.{OnlyNow, View, Unsynced, IsImage, IsSettled, IsWithin, widened}
+use Rattle.cm_disk.specs.Disk.{OnlyNow, View, Unsynced, IsImage, IsDurable, IsWithin, widened}
 use Rattle.cm_disk.specs.Calls.{Passes}
 use Rattle.cm_guards.specs.Guards.{EachImage}
 use Rattle.cm_guards.specs.Calls.{LeavesOnly}
@@ -13,7 +13,7 @@ use Rattle.cm_recover.specs.NewFile.{shut_bytes, IsNoneOrEmpty}
 use Rattle.cm_recover.specs.Making.{IsUnfinished, CallsAtMost, FormatsThrough}
 use Rattle.cm_recover.proofs.Shut.{shut_is_no_cache}
 
--- whatever may be left that isn't too long
+-- anything may be left that isn't too long
 unfinished : (sizes : Sizes) (before unsynced : Unsynced) (contents : List ℕ)
     → unsynced.greatest ≤ max before.greatest (roots_at sizes)
     → EachImage contents unsynced (IsUnfinished sizes before)
@@ -32,13 +32,13 @@ module _ {D : Type 0} (called : D → D → Bool → Type 0) where
   no_calls zero disk = refl
   no_calls (suc n) disk = inl refl
 
-  -- one of them, whatever it answers
+  -- one call, whatever it returns
   pub calls_once : {T E : Type 0} (r : Result T E) (n : ℕ) (old new : D) → called old new (is_ok r)
       → CallsAtMost called (suc n) old new
   calls_once (Ok x) n old new call = inr (inr (new, call, no_calls n new))
   calls_once (Err e) n old new call = inr (inl call)
 
-  -- one that is done, and others behind it
+  -- one call that succeeded, and others after it
   pub calls_on : {T E : Type 0} (r : Result T E) (x : T) (n : ℕ) (old next new : D) → r ≡ Ok x
       → called old next (is_ok r) → CallsAtMost called n next new
       → CallsAtMost called (suc n) old new
@@ -49,7 +49,7 @@ module _ {D : Type 0} (called : D → D → Bool → Type 0) where
 
 module _ {D : Type 0} (view : View D)
     (only_now : OnlyNow view) (sizes : Sizes) where
-  -- the disk's length is asked for
+  -- the disk's length is requested
   pub unfinished_asked : (old new : D)
       → Passes view old new
       (IsImage (view.contents old) (view.unsynced old))
@@ -72,7 +72,7 @@ module _ {D : Type 0} (view : View D)
       (unfinished sizes (view.unsynced old) (widened 0 n (view.unsynced old)) (view.contents old)
       (omega (arith, long)))
 
-  -- and then synced
+  -- the file is then synced
   pub unfinished_synced : (first old new : D) (n : ℕ) → n ≡ roots_at sizes
       → IsWithin (widened 0 n (view.unsynced first)) (view.unsynced old)
       → Passes view first old
@@ -87,7 +87,7 @@ module _ {D : Type 0} (view : View D)
       (omega (arith, long, within.greatest)))
       syncing
 
-  -- its length is asked for, and then it is stored
+  -- its length is requested, and then the file is stored
   pub unfinished_on : (first old new : D) (file_sizes : Sizes) → file_sizes ≡ sizes
       → view.unsynced old ≡ view.unsynced first
       → Passes view first old
@@ -133,7 +133,7 @@ module _ {D : Type 0} (view : View D)
           });
         }
 
-    -- it was stored shut, and then opened
+    -- the file was stored shut, and then opened
     pub passes_shut : {T E : Type 0} (result : Result T E) (first old between new : D)
         (file_sizes : Sizes) → CallsAtMost called 3 first between
         → CallsAtMost called 2 between new → file_sizes ≡ sizes → view.unsynced old ≡ view.unsynced
@@ -142,7 +142,7 @@ module _ {D : Type 0} (view : View D)
         (IsImage (view.contents first) (view.unsynced first))
         → LeavesOnly view old between (IsUnfinished file_sizes (view.unsynced old))
         → view.contents between ≡ shut_bytes file_sizes
-        → IsSettled (view.contents between) (view.unsynced between)
+        → IsDurable (view.contents between) (view.unsynced between)
         → LeavesOnly view between new (IsNoneOrEmpty file_sizes)
         → FormatsThrough view called sizes first new result
     passes_shut result first old between new file_sizes three two same kept time run shut stored

@@ -1,4 +1,4 @@
--- The verdict, step by step, and what is answered of it.
+-- The verdict, step by step, and the result for it.
 -- For `SecondPass::take_all`, `SecondPass::take_class`, `read_standing` and others.
 use Rattle.std.proofs.Common.{◌≡◌, ◌⊎◌, ℕ, List, [], length, Ok, Err, ap, subst, sym, ◌∙◌, inl, inr}
 use Rattle.std.proofs.Common.{Bool, true, None, if◌then◌else◌}
@@ -16,9 +16,9 @@ use Rattle.cm_verdict.specs.Verdict.{is_whole, class_kept, words_at}
 use Rattle.cm_recover.specs.declared.fault.OpenFault.{OpenFault}
 use Rattle.cm_recover.specs.declared.fault.OpenFault.TheVariants as open_fault
 use Rattle.cm_recover.specs.Opening.{IsFaultIn}
-use Rattle.cm_recover.specs.Standing.{GoesByVerdict, if_class, class_in_place}
+use Rattle.cm_recover.specs.Standing.{FollowsVerdict, if_class, class_in_place}
 
--- a fault goes through
+-- a fault is passed on
 pub through : {A B : Type 0} (e : OpenFault) (x : Result A FileFault) (f : A → Result B FileFault)
     → IsFaultIn e x → IsFaultIn e (x >>= f)
 through open_fault.NotACache x f told = ap (λ r. r >>= f) told
@@ -26,7 +26,7 @@ through (open_fault.Damaged what slot) x f told = ap (λ r. r >>= f) told
 through open_fault.Device x f told = tt
 through open_fault.NoMemory x f told = tt
 
--- of the device and of memory the verdict says nothing
+-- the verdict has no faults of the device or of allocations
 pub quiet_fault : {B : Type 0} (e : OpenFault) (x : Result B FileFault)
     → (e ≡ open_fault.Device) ⊎ (e ≡ open_fault.NoMemory) → IsFaultIn e x
 quiet_fault open_fault.NotACache x (inl e) = absurd (cc)
@@ -46,9 +46,9 @@ bad_record sizes contents place whole none =
     ap (λ (b : Bool). if b then if_class (class_kept words) else Err damage.Chunks) whole
     ∙ ap if_class none
 
--- it is answered as it came
+-- the fault is returned unchanged
 pub fault_told : {A B : Type 0} (Alike : A → B → Type 0) (r : Result A OpenFault) (e : OpenFault)
-    (x : Result B FileFault) → IsErrAnd r (λ f. f ≡ e) → IsFaultIn e x → GoesByVerdict Alike r x
+    (x : Result B FileFault) → IsErrAnd r (λ f. f ≡ e) → IsFaultIn e x → FollowsVerdict Alike r x
 fault_told Alike (Ok value) e x none told = absurd none
 fault_told Alike (Err f) e x same told = subst (λ (g : OpenFault). IsFaultIn g x) (sym same) told
 

@@ -1,4 +1,4 @@
--- What a file is before, while and after it is made.
+-- What a file is before it is made, meanwhile and afterwards.
 use Rattle.std.specs.Prelude.{◌≢◌, ℕ, List, get_or}
 use Rattle.cm_pool.specs.Geometry.{Sizes, IsGeometry}
 use Rattle.cm_layout.specs.Slots.{open_gate}
@@ -7,7 +7,7 @@ use Rattle.cm_guards.specs.Gates.{Turns}
 use Rattle.cm_recover.specs.Opened.{IsOlderFile}
 use Rattle.cm_recover.specs.NewFile.{gate_at, new_bytes, shut_bytes, IsNoCache, IsEmptyCache}
 
--- Contents whose superblock isn't open are no cache, whatever else stands there.
+-- Contents whose superblock isn't open are no cache, whatever else they hold.
 abbrev pub ShutIsNoCache : Type 0
 ShutIsNoCache = (contents : List ℕ) → get_or contents gate_at 0 ≢ open_gate → IsNoCache contents
 
@@ -19,7 +19,7 @@ NewIsEmpty = (sizes : Sizes) → IsGeometry sizes → IsEmptyCache sizes (new_by
 abbrev pub NewIsNewest : Type 0
 NewIsNewest = (sizes : Sizes) → IsGeometry sizes → IsNewest (new_bytes sizes)
 
--- A file whose half that counts is of that version isn't one of an older version.
+-- A file whose half that counts is of that version isn't a file of version 1.
 abbrev pub NewestIsNotOlder : Type 0
 NewestIsNotOlder = (contents : List ℕ) → IsNewest contents → IsOlderFile contents → ⊥
 

@@ -4,7 +4,7 @@ use Rattle.std.specs.Prelude.{List, length, get_or, Result, Err, IsErr}
 use Rattle.cm_pool.specs.Geometry.{Sizes, IsGeometry}
 use Rattle.cm_layout.specs.Offsets.{roots_at}
 use Rattle.cm_layout.specs.Slots.{open_gate}
-use Rattle.cm_disk.specs.Disk.{View, Unsynced, IsBytes, IsSettled}
+use Rattle.cm_disk.specs.Disk.{View, Unsynced, IsBytes, IsDurable}
 use Rattle.cm_guards.specs.Calls.{LeavesOnly}
 use Rattle.cm_recover.specs.declared.fault.FormatFault.{FormatFault}
 use Rattle.cm_recover.specs.declared.fault.FormatFault.TheVariants as fault
@@ -17,30 +17,29 @@ pub record IsNewFile (sizes : Sizes) (file : NewFile) : Type 0 where
   pub geometry : file.geometry ≡ sizes
   pub bytes : file.bytes.items ≡ shut_bytes sizes
 
--- the device is told to have failed only where it did
+-- a device fault is returned only if the device failed
 pub record HasFormatCause (before now : ℕ) (result : Result (Unit {0}) FormatFault) : Type 0 where
   pub later : before ≤ now
   pub fault : result ≡ Err fault.Device → before < now
 
 -- ---- its moments
 
--- What a crash may leave until all but the gate of the superblock is stored, where this was
--- unsynced before the file was begun: no more bytes than it has, or than might have been left
--- before; and no cache, unless an open gate is among them, though it was written shut.
+-- What a crash may leave until all but the gate of the superblock is durable, given what was
+-- unsynced before the file was begun: no more bytes than the file has, or than might have been left
+-- before; and no cache, unless those bytes include an open gate, though it was written shut.
 pub record IsUnfinished (sizes : Sizes) (before : Unsynced) (image : List ℕ) : Type 0 where
   pub bytes : IsBytes image
   pub no_longer : length image ≤ max before.greatest (roots_at sizes)
   pub no_cache : get_or image gate_at 0 ≢ open_gate → IsNoCache image
 
--- At most so many calls of the device lead from the one disk to the other, and none but the last
--- failed.
+-- At most `n` calls of the device lead from one disk to the other, and none but the last failed.
 abbrev pub CallsAtMost : {D : Type 0} → (D → D → Bool → Type 0) → ℕ → D → D → Type 0
 CallsAtMost called zero old new = new ≡ old
 CallsAtMost {D = D} called (suc n) old new =
     (new ≡ old) ⊎ (called old new false
     ⊎ ((next : D) × called old next true × CallsAtMost called n next new))
 
--- A fault came before all but the gate was stored. The first three calls are the length, a write
+-- A fault came before all but the gate was durable. The first three calls are the length, a write
 -- and a sync.
 pub record EndsUnfinished {T E D : Type 0} (view : View D) (called : D → D → Bool → Type 0)
     (sizes : Sizes)
@@ -49,19 +48,19 @@ pub record EndsUnfinished {T E D : Type 0} (view : View D) (called : D → D →
   pub calls : CallsAtMost called 3 old new
   pub images : LeavesOnly view old new (IsUnfinished sizes (view.unsynced old))
 
--- By the first sync all but the gate was stored. Until then the file was unfinished, and from
--- there on each image is no cache or the empty one. The last two calls are a write and a sync.
+-- After the first sync all but the gate is durable. Until then the file was unfinished; from then
+-- on each image is no cache or the empty one. The last two calls are a write and a sync.
 pub record PassesShut {D : Type 0} (view : View D) (called : D → D → Bool → Type 0)
     (sizes : Sizes) (old new : D) : Type 0 where
   pub between : D
   pub shut : view.contents between ≡ shut_bytes sizes
-  pub stored : IsSettled (view.contents between) (view.unsynced between)
+  pub stored : IsDurable (view.contents between) (view.unsynced between)
   pub first_calls : CallsAtMost called 3 old between
   pub before : LeavesOnly view old between (IsUnfinished sizes (view.unsynced old))
   pub last_calls : CallsAtMost called 2 between new
   pub after : LeavesOnly view between new (IsNoneOrEmpty sizes)
 
--- what is so of the moments of a call that makes a file of these sizes, and answers this
+-- what holds at the moments of a call that makes a file of these sizes and returns this result
 pub record FormatsThrough {T E D : Type 0} (view : View D) (called : D → D → Bool → Type 0)
     (sizes : Sizes) (old new : D) (result : Result T E) : Type 0 where
   pub course : EndsUnfinished view called sizes old new result

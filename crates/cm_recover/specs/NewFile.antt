@@ -13,7 +13,7 @@ use Rattle.cm_state.specs.Stands.{Stands}
 use Rattle.cm_verdict.specs.declared.fault.FileFault.TheVariants.{NotACache}
 use Rattle.cm_verdict.specs.Verdict.{verdict}
 
--- where the superblock's gate stands: its last byte
+-- the position of the superblock's gate: its last byte
 abbrev pub gate_at : ℕ
 gate_at = superblock_size - 1
 
@@ -21,7 +21,7 @@ gate_at = superblock_size - 1
 abbrev pub first_head : HalfHead
 first_head = record { version = entry_version; live = 0; epoch = 1; base = 0 }
 
--- behind the first head both halves are zeros, and there are no roots
+-- after the first head both halves are zeros, and there are no roots
 abbrev pub zeros_behind : Sizes → ℕ
 zeros_behind sizes = 2 * half_size sizes - slot_size
 
@@ -29,7 +29,7 @@ unfoldable pub new_bytes : Sizes → List ℕ
 new_bytes sizes =
     superblock_bytes sizes ++ (half_head_slot first_head ++ blank (zeros_behind sizes))
 
--- the same, but for the superblock's gate, which is shut
+-- the same, except for the superblock's gate, which is shut
 abbrev pub shut_bytes : Sizes → List ℕ
 shut_bytes sizes = slice_set (new_bytes sizes) gate_at 0
 

@@ -1,5 +1,5 @@
--- What a file is opened as: the accepted cache and its committer, both with what the file stands
--- for.
+-- The result of opening a file: the accepted cache and its committer, both with what the file
+-- stands for.
 use Rattle.std.specs.Prelude.{◌≡◌, ◌<◌, ◌≤◌, ◌⊎◌, ◌^◌, ℕ, List, [], ◌∷◌, length, None, Bool}
 use Rattle.std.specs.Prelude.{Result, Ok, Err, true, false, nat_lt, if◌then◌else◌}
 use Rattle.std.specs.FinMap as map
@@ -10,7 +10,7 @@ use Rattle.cm_layout.specs.declared.row.Row.{Row}
 use Rattle.cm_layout.specs.declared.row.Row.TheVariants.{Loader, Class}
 use Rattle.cm_layout.specs.Rows.{rows_with, bare}
 use Rattle.cm_layout.specs.Frames.{entry_version}
-use Rattle.cm_layout.specs.Framing.{Framing, IsRight, Matches}
+use Rattle.cm_layout.specs.Framing.{Framing, IsRightFraming, Matches}
 use Rattle.cm_disk.specs.Disk.{View, Unsynced, IsImage, IsWithin}
 use Rattle.cm_guards.specs.Calls.{LeavesOnly}
 use Rattle.cm_state.specs.Stands.{Stands, Arenas}
@@ -22,41 +22,42 @@ use Rattle.cm_group.specs.Groups.{AreRight}
 use Rattle.cm_front.specs.Arenas.{chunks_owned}
 use Rattle.cm_front.specs.Restoring.{Restores}
 use Rattle.cm_commit.specs.States.{CommitterState, ShowsCache}
-use Rattle.cm_commit.specs.declared.journal.Journal.{Journal}
+use Rattle.cm_commit.specs.declared.journal_end.JournalEnd.{JournalEnd}
 use Rattle.cm_commit.specs.Checkpoints.{renewed_journal}
 use Rattle.cm_commit.specs.Committed.{end_slot}
 use Rattle.cm_recover.specs.Opening.{other_is_open}
 use Rattle.cm_recover.specs.declared.opening.NotOpened.{NotOpened}
 use Rattle.cm_recover.specs.declared.fault.OpenFault.TheVariants as open_fault
 
--- each loader's name, to the chunks of its arena in the accepted cache
+-- from each loader's name to the chunks of its arena in the accepted cache
 abbrev pub arenas_by_name : List (Row ClassFile) → FrontState → Arenas
 arenas_by_name [] front = map.empty
 arenas_by_name (Loader r ∷ rows) front =
     map.insert (arenas_by_name rows front) r.name (chunks_owned front r.number)
 arenas_by_name (Class r c ∷ rows) front = arenas_by_name rows front
 
--- no record is longer than any may be
+-- no record is longer than the limit
 abbrev pub AreShort : List (Row (List ℕ)) → Type 0
 AreShort [] = Unit {0}
 AreShort (Loader r ∷ rows) = AreShort rows
 AreShort (Class r words ∷ rows) = (length words ≤ limit) × AreShort rows
 
 -- what a file stands for is what its contents frame, with rows of a cache
-pub record IsOpened (contents : List ℕ) (s : Standing) (rows : List (Row (List ℕ))) : Type 0 where
-  pub framing : Framing
-  pub counting_is : framing.counting ≡ s.found.half
-  pub head_is : framing.head ≡ s.found.head
-  pub end_is : end_slot framing ≡ s.found.end
-  pub right : IsRight s.found.sizes framing rows s.found.number
-  pub matches : Matches s.found.sizes framing rows contents
-  pub cache : AreCacheRows words_show s.found.sizes s.found.number rows
-  pub records : AreRight rows
-  pub number_is : s.found.number ≤ 2 ^ 63
-  pub lawful : IsGeometry s.found.sizes
+pub record OpensStanding (contents : List ℕ) (s : Standing) (rows : List (Row (List ℕ))) : Type 0
+  where
+    pub framing : Framing
+    pub counting_is : framing.counting ≡ s.found.half
+    pub head_is : framing.head ≡ s.found.head
+    pub end_is : end_slot framing ≡ s.found.end
+    pub right : IsRightFraming s.found.sizes framing rows s.found.number
+    pub matches : Matches s.found.sizes framing rows contents
+    pub cache : AreCacheRows words_show s.found.sizes s.found.number rows
+    pub records : AreRight rows
+    pub number_is : s.found.number ≤ 2 ^ 63
+    pub lawful : IsGeometry s.found.sizes
 
--- where the journal goes on in a file of these contents
-abbrev pub found_journal : List ℕ → Standing → Journal
+-- where the journal continues in a file of these contents
+abbrev pub found_journal : List ℕ → Standing → JournalEnd
 found_journal contents s = record {
   geometry = s.found.sizes;
   half = s.found.half;
@@ -66,19 +67,19 @@ found_journal contents s = record {
   number = s.found.number;
 }
 
--- the half that counts is of an older version than is written now
+-- the half that counts is of version 1
 abbrev pub is_older : Standing → Bool
 is_older s = nat_lt s.found.head.version entry_version
 
--- and where it goes on once the file is opened: in the other half, where that was written anew
-abbrev pub opened_journal : List ℕ → Standing → Journal
+-- where it continues once the file is opened: in the other half, if that was written anew
+abbrev pub opened_journal : List ℕ → Standing → JournalEnd
 opened_journal contents s =
     if is_older s then renewed_journal (found_journal contents s) (bare (rows_with lay s.rows))
     else found_journal contents s
 
--- the contents stand for this, and both have its rows with the words of their records, and its
--- number: the accepted cache has the arenas that they stand for, and nothing to hand out; the
--- committer has nothing under way
+-- The contents stand for a cache, and both parts have its rows with the words of their records, and
+-- its number. The accepted cache has the arenas that the contents stand for, and nothing to hand
+-- out; the committer has nothing under way.
 pub record Opens {D : Type 0} (contents : List ℕ) (front : FrontState)
     (committer : CommitterState D)
     : Type 0 where
@@ -107,8 +108,8 @@ pub record Opens {D : Type 0} (contents : List ℕ) (front : FrontState)
 -- ---- the device
 
 -- A run of calls that sync and read: the contents stay, no more is unsynced after it, at each
--- moment a crash leaves what it might have left before it, and a fault is told exactly where the
--- device failed in it.
+-- moment a crash leaves what it might have left before, and a fault is returned exactly if the
+-- device failed during the run.
 pub record SyncsAndReads {D : Type 0} (view : View D) (old new : D)
     (Faulted : Type 0) : Type 0 where
   pub contents_stay : view.contents new ≡ view.contents old
@@ -118,8 +119,8 @@ pub record SyncsAndReads {D : Type 0} (view : View D) (old new : D)
   pub cause : Faulted → view.failures old < view.failures new
   pub no_cause : (Faulted → ⊥) → view.failures new ≡ view.failures old
 
--- The contents stand for a cache, whose half that counts is of an older version than is written
--- now: the file is moved over when it is opened.
+-- The contents stand for a cache whose half that counts is of version 1: the file is upgraded when
+-- it is opened.
 pub record IsOlderFile (contents : List ℕ) : Type 0 where
   pub standing : Standing
   pub verdict_is : verdict contents ≡ Ok standing
@@ -137,15 +138,15 @@ abbrev pub LeavesSame : List ℕ → Unsynced → List ℕ → Type 0
 LeavesSame contents unsynced image =
     IsImage contents unsynced image ⊎ StandsForSame contents image
 
--- the device is told to have failed exactly where it did
+-- a fault is returned exactly if the device failed
 pub record TellsDevice (before now : ℕ) (Faulted : Type 0) : Type 0 where
   pub later : before ≤ now
   pub cause : Faulted → before < now
   pub no_cause : (Faulted → ⊥) → now ≡ before
 
--- What opening makes of the disk. Unless the file is of an older version, it is a run of calls that
--- sync and read. At each moment a crash leaves what it might have left before, or what stands for
--- the same cache.
+-- What opening does to the disk. Unless the file is of version 1, it is a run of calls that sync
+-- and read. At each moment a crash leaves what it might have left before, or what stands for the
+-- same cache.
 pub record OpensThrough {D : Type 0} (view : View D) (old new : D)
     (Faulted : Type 0) : Type 0 where
   pub reads_alone : (IsOlderFile (view.contents old) → ⊥) → SyncsAndReads view old new Faulted

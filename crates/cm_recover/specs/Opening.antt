@@ -1,5 +1,5 @@
--- What is answered of a file that is opened: what the verdict's definitions say of its contents,
--- unless the device or an allocation failed.
+-- The result of opening a file is what the verdict's definitions say of its contents, unless the
+-- device or an allocation failed.
 use Rattle.std.specs.Prelude.{◌≡◌, ◌==◌, ℕ, Bool, List, take, get_or, Result, Ok, Err}
 use Rattle.cm_pool.specs.Geometry.{Sizes}
 use Rattle.cm_layout.specs.declared.half.Half.{Half}
@@ -26,14 +26,14 @@ abbrev pub fault_of_renewal : RenewFault → OpenFault
 fault_of_renewal renew_fault.Device = open_fault.Device
 fault_of_renewal renew_fault.NoMemory = open_fault.NoMemory
 
--- a fault is that of the verdict, or one of the device or of memory
+-- the fault is that of the verdict, or the device or an allocation failed
 abbrev pub IsFaultIn : {B : Type 0} → OpenFault → Result B FileFault → Type 0
 IsFaultIn open_fault.NotACache verdict = verdict ≡ Err NotACache
 IsFaultIn (open_fault.Damaged what slot) verdict = verdict ≡ Err (Damaged what slot)
 IsFaultIn open_fault.Device verdict = Unit {0}
 IsFaultIn open_fault.NoMemory verdict = Unit {0}
 
--- what is answered is what the verdict says, where a value is seen so
+-- the result is what the verdict says, where `seen` maps a value to the verdict's
 abbrev pub IsAnswer : {A B : Type 0} → (A → B) → Result A OpenFault → Result B FileFault → Type 0
 IsAnswer seen (Ok value) verdict = verdict ≡ Ok (seen value)
 IsAnswer seen (Err fault) verdict = IsFaultIn fault verdict
@@ -44,7 +44,7 @@ abbrev pub half_of : Half → List ℕ → List ℕ → List ℕ
 half_of Zero zero one = zero
 half_of One zero one = one
 
--- whether the gate is open of the half that isn't this one
+-- whether the gate of the other half is open
 abbrev pub other_is_open : Sizes → Half → List ℕ → Bool
 other_is_open sizes half contents =
     get_or contents (half_at sizes (other_half half)) 0 == open_gate
@@ -56,6 +56,6 @@ found_in_halves sizes zero one = do
   w ← walk_through sizes c (half_of c.half zero one)
   Ok (found_walked sizes c w)
 
--- what was found in a file, in memory
+-- what was found in a file, as a value in memory
 abbrev pub found_of : FoundFile → Found
 found_of file = found_walked file.geometry file.counts (walked file.walk)

@@ -1,5 +1,5 @@
--- The second pass over a file, in memory: the records of the rows that live are read one after
--- another, and what is answered of them is what the verdict's definitions say.
+-- The second pass over a file, in memory: the records of the live rows are read one after another,
+-- and the result for each is what the verdict's definitions say.
 use Rattle.std.specs.Prelude.{◌≡◌, ◌<◌, ◌≤◌, ℕ, ◌+◌, List, [], ◌∷◌, ◌++◌, length}
 use Rattle.std.specs.Prelude.{Option, Some, None, Result, Ok, Err, if◌then◌else◌}
 use Rattle.std.specs.Arc.{arc_value}
@@ -27,21 +27,21 @@ use Rattle.cm_recover.specs.declared.fault.OpenFault.{OpenFault}
 use Rattle.cm_recover.specs.declared.standing.StandingFile.{StandingFile}
 use Rattle.cm_recover.specs.Opening.{IsFaultIn, other_is_open}
 
--- ---- answers
+-- ---- results
 
 -- the verdict is Ok, with what is like this value
-pub record Tells {A B : Type 0} (Alike : A → B → Type 0) (verdict : Result B FileFault)
+pub record ReportsOk {A B : Type 0} (Alike : A → B → Type 0) (verdict : Result B FileFault)
     (value : A) : Type 0 where
   pub told : B
   pub verdict_is : verdict ≡ Ok told
   pub alike : Alike value told
 
--- what is answered is what the verdict says
-abbrev pub GoesByVerdict : {A B : Type 0} → (A → B → Type 0) → Result A OpenFault
+-- the result is what the verdict says
+abbrev pub FollowsVerdict : {A B : Type 0} → (A → B → Type 0) → Result A OpenFault
     → Result B FileFault
     → Type 0
-GoesByVerdict Alike (Ok value) verdict = Tells Alike verdict value
-GoesByVerdict Alike (Err fault) verdict = IsFaultIn fault verdict
+FollowsVerdict Alike (Ok value) verdict = ReportsOk Alike verdict value
+FollowsVerdict Alike (Err fault) verdict = IsFaultIn fault verdict
 
 -- ---- one record
 
@@ -53,7 +53,7 @@ pub record IsPlace (sizes : Sizes) (place : Place) : Type 0 where
   pub chunk : place.chunk.at + chunk_size place.chunk.order ≤ chunk_size sizes.top
   pub words : place.offset + place.words ≤ chunk_size place.chunk.order
 
--- the class of a place, whatever its name
+-- the class at a place, whatever its name
 abbrev pub if_class : Option ClassFile → Result ClassFile Damage
 if_class None = Err damage.Record
 if_class (Some c) = Ok c
@@ -63,19 +63,20 @@ class_in_place sizes contents place =
     if is_whole sizes (length contents) place
     then if_class (class_kept (words_at sizes contents place)) else Err damage.Chunks
 
--- the words are the record of this class, and tell its name
+-- the words are the record of this class, and give its name
 pub record IsRecorded (words : List ℕ) (c : ClassFile) : Type 0 where
   pub laid : words ≡ lay c
   pub named : class_name_in words ≡ class_name_of c
 
--- what is made of words: the record of the class whose words they are, if that keeps the rules
+-- what is made from words: the record of the class whose words they are, if that class keeps the
+-- rules
 abbrev pub IsKeptClass : List ℕ → Option (List ℕ) → Type 0
 IsKeptClass words None = class_kept words ≡ None
 IsKeptClass words (Some made) = (c : ClassFile) × (class_kept words ≡ Some c) × IsRecorded made c
 
 -- ---- one row
 
--- each class's record tells its name
+-- each class's record gives its name
 abbrev pub TellNames : List (Row ClassFile) → Type 0
 TellNames [] = Unit {0}
 TellNames (Loader r ∷ rows) = TellNames rows
@@ -91,7 +92,7 @@ pub record AreRecorded (sizes : Sizes) (rows : LiveRows (List ℕ))
 abbrev pub bare_of : Row DefinedAt → BareRow
 bare_of row = row_with (λ at. tt) row
 
--- a row keeps the rules behind those that were taken
+-- a row keeps the rules after those already taken
 pub record MayFollow (sizes : Sizes) (number : ℕ) (taken : LiveRows (List ℕ))
     (row : BareRow) : Type 0 where
   pub sizes_are : taken.sizes ≡ sizes
@@ -106,7 +107,7 @@ row_found sizes contents before (Class r at) =
 
 -- ---- the file
 
--- in memory, what a file with these contents stands for
+-- what a file with these contents stands for, as a value in memory
 pub record IsStanding (contents : List ℕ) (file : StandingFile) (s : Standing) : Type 0 where
   pub geometry : file.journal.geometry ≡ s.found.sizes
   pub half : file.journal.half ≡ s.found.half

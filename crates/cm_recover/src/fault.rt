@@ -1,4 +1,4 @@
-//! Why a file isn't made, or isn't opened.
+//! Why a file isn't made or opened.
 
 ghost use Rattle.std.specs.Prelude.{◌≡◌, Some};
 ghost use Rattle.cm_recover.specs.declared.fault.FormatFault.TheVariants as fault;
@@ -43,13 +43,13 @@ impl From<AllocError> for FormatFault {
     }
 }
 
-/// Why a file isn't opened. It stands for what it stood for.
+/// Why a file isn't opened. What the file stands for is unchanged.
 #[derive(Clone, Copy, Debug, PartialEq, Eq)]
 pub enum OpenFault {
-    /// The file is shorter than a superblock, or its first bytes or the gate of its superblock are
-    /// others.
+    /// The file is shorter than a superblock, or its first bytes or its superblock's gate differ
+    /// from those of a cache.
     NotACache,
-    /// The file's first damage, with the slot where it was met, as in [`FileFault`].
+    /// The file's first damage, with the slot where it was found, as in [`FileFault`].
     Damaged { what: Damage, slot: u32 },
     /// The device failed.
     Device,

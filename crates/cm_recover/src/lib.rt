@@ -1,10 +1,9 @@
-//! Making a region file, and what is found in one when it is opened.
+//! Makes a region file, and reads what an opened one holds.
 #![tactic(auto)]
 
 mod fault;
 mod laws;
 mod making;
-mod moving_over;
 mod new_file;
 mod opening;
 mod reach;
@@ -12,6 +11,7 @@ mod reading;
 mod record_words;
 mod shared_rows;
 mod standing;
+mod upgrading;
 
 pub use fault::{FormatFault, OpenFault};
 pub use laws::{new_file_is_empty, newest_is_not_older};

@@ -1,7 +1,7 @@
 //! A file that is being made.
 
 ghost use Rattle.std.specs.Prelude.{◌≡◌, length, IfOk, OnOk, is_ok};
-ghost use Rattle.cm_disk.specs.Disk.{IsSettled};
+ghost use Rattle.cm_disk.specs.Disk.{IsDurable};
 ghost use Rattle.cm_disk.specs.Calls.{HasCause};
 ghost use Rattle.cm_guards.specs.Guards.{EachImage};
 ghost use Rattle.cm_guards.specs.Calls.{LeavesOnly};
@@ -14,10 +14,10 @@ use cm_layout::{ENTRY_VERSION, HalfHead, OPEN_GATE, SUPERBLOCK_BYTES, Superblock
 use cm_pool::Geometry;
 use std::alloc::{AllocError, Global};
 
-/// Where the superblock's gate stands.
+/// The position of the superblock's gate.
 const GATE_AT: usize = SUPERBLOCK_BYTES - 1;
 
-/// What a new file is to hold: an open superblock, the head of half 0, zeros.
+/// What a new file will hold: an open superblock, the head of half 0, zeros.
 fn encode(alloc: Global, geometry: Geometry) -> Result<Vec<u8>, AllocError>
     requires { IsGeometry geometry }
     ensures { IfOk result (λ bytes. bytes.items ≡ new_bytes geometry) }
@@ -52,12 +52,12 @@ impl NewFile {
         Ok(NewFile { geometry, bytes })
     }
 
-    /// Stores it on an empty disk, shut: it is unfinished at each moment until then.
+    /// Stores the file on an empty disk, shut: it is unfinished at each moment until then.
     pub(crate) fn store<D: Disk>(&self, disk: &mut D) -> Result<(), DeviceFault>
         requires new { IsNewFile self.now.geometry self.now }
         requires empty { length (D.view.contents disk.old) ≡ 0 }
         ensures written { OnOk result (D.view.contents disk.new ≡ shut_bytes self.now.geometry) }
-        ensures settled { OnOk result (IsSettled (D.view.contents disk.new)
+        ensures durable { OnOk result (IsDurable (D.view.contents disk.new)
             (D.view.unsynced disk.new)) }
         ensures any_moment { LeavesOnly D.view disk.old disk.new
             (IsUnfinished self.now.geometry (D.view.unsynced disk.old)) }
@@ -68,12 +68,12 @@ impl NewFile {
         disk.sync()
     }
 
-    /// Writes the gate of its superblock, where all else is stored.
+    /// Writes the gate of its superblock, when all else is stored.
     #[tactic(auto, using(cm_guards::proofs::gating))]
     fn write_gate<D: Disk>(&self, disk: &mut D) -> Result<(), DeviceFault>
         requires lawful { IsGeometry self.now.geometry }
         requires shut { D.view.contents disk.old ≡ shut_bytes self.now.geometry }
-        requires settled { IsSettled (D.view.contents disk.old) (D.view.unsynced disk.old) }
+        requires durable { IsDurable (D.view.contents disk.old) (D.view.unsynced disk.old) }
         ensures written { OnOk result (D.view.contents disk.new ≡ new_bytes self.now.geometry) }
         ensures images { EachImage (D.view.contents disk.new) (D.view.unsynced disk.new)
             (IsNoneOrEmpty self.now.geometry) }
@@ -85,15 +85,15 @@ impl NewFile {
         disk.write_at(GATE_AT as u64, &[OPEN_GATE])
     }
 
-    /// Opens its superblock, where all else is stored: until this is stored too, a crash leaves no
-    /// cache or the empty one, at each moment and after a fault.
+    /// Opens its superblock, when all else is stored: until the gate is durable too, a crash leaves
+    /// no cache or the empty one, at each moment and after a fault.
     #[tactic(auto, using(cm_guards::proofs::settling))]
     pub(crate) fn open<D: Disk>(&self, disk: &mut D) -> Result<(), DeviceFault>
         requires lawful { IsGeometry self.now.geometry }
         requires shut { D.view.contents disk.old ≡ shut_bytes self.now.geometry }
-        requires settled { IsSettled (D.view.contents disk.old) (D.view.unsynced disk.old) }
+        requires durable { IsDurable (D.view.contents disk.old) (D.view.unsynced disk.old) }
         ensures written { OnOk result (D.view.contents disk.new ≡ new_bytes self.now.geometry) }
-        ensures stored { OnOk result (IsSettled (D.view.contents disk.new)
+        ensures stored { OnOk result (IsDurable (D.view.contents disk.new)
             (D.view.unsynced disk.new)) }
         ensures images { EachImage (D.view.contents disk.new) (D.view.unsynced disk.new)
             (IsNoneOrEmpty self.now.geometry) }

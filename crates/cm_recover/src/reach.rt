@@ -7,9 +7,9 @@ ghost use Rattle.cm_layout.specs.Superblock.{superblock_bytes};
 
 use cm_layout::{Superblock, root_at};
 
-/// How many bytes of a file are read at the most, by opening it or looking at what it holds, where
-/// these are its first 4,096: those up to the last root that its sizes allow. None where they are
-/// no superblock.
+/// The most bytes of a file that are read when it is opened or its contents are listed, if these
+/// are its first 4,096: those up to the last root that its sizes allow. The result is 0 if these
+/// bytes are no superblock.
 pub fn bytes_read(beginning: &[u8]) -> u64
     ensures sizes { (sizes : Sizes) → IsGeometry sizes → beginning.now ≡ superblock_bytes sizes
         → result ≡ root_at_of sizes sizes.roots }

@@ -1,4 +1,4 @@
-//! What a file holds without its records, by a run of reads.
+//! Reads what a file holds except for its records.
 
 ghost use Rattle.cm_layout.specs.Frames.{entry_version};
 ghost use Rattle.std.specs.Prelude.{◌≡◌, ◌≤◌, ◌+◌, ◌*◌, ◌⊎◌, ◌==◌, length, take, get_or, Err};
@@ -17,12 +17,12 @@ use cm_layout::{
     ENTRY_VERSION, Half, OPEN_GATE, SLOT_BYTES, SUPERBLOCK_BYTES, front_slot, half_at,
 };
 use cm_pool::Geometry;
-use cm_rows::Book;
+use cm_rows::LiveRows;
 use cm_verdict::{Counting, HalfWalk, counting_half, find_sizes, walk_through};
 use std::alloc::Global;
 
-/// What is found in a file without its records: its sizes, the half that counts, and what lives by
-/// the entries of that half.
+/// What is found in a file without its records: its sizes, the half that counts, and what is live
+/// by the entries of that half.
 #[derive(Drop)]
 pub struct FoundFile {
     pub geometry: Geometry,
@@ -32,7 +32,7 @@ pub struct FoundFile {
     pub walk: HalfWalk,
 }
 
-// Reads so many bytes.
+// Reads `count` bytes.
 #[tactic(auto, using(cm_guards::proofs::reading))]
 fn read_part<D: Disk>(
     alloc: Global,
@@ -69,7 +69,7 @@ fn read_sizes<D: Disk>(alloc: Global, disk: &mut D) -> Result<Geometry, OpenFaul
     Ok(geometry)
 }
 
-// Whether the gate is open of the half that isn't this one.
+// Whether the gate of the other half is open.
 fn is_other_open(half: Half, zero: &[u8], one: &[u8]) -> bool
     requires zero { 1 ≤ length zero.now }
     requires one { 1 ≤ length one.now }
@@ -104,7 +104,7 @@ fn walk_halves(
         Half::One => one,
     };
     let other_open = is_other_open(counts.half, zero, one);
-    let book = Book::new(alloc, geometry)?;
+    let book = LiveRows::new(alloc, geometry)?;
     let walk = walk_through(geometry, book, &counts, half)?;
     Ok(FoundFile {
         geometry,
@@ -114,11 +114,11 @@ fn walk_halves(
     })
 }
 
-/// What is found in a file without its records, or its first damage, by a run of reads: the
-/// superblock first, then both halves, whose bytes are dropped again. Nothing changes.
+/// Reads what a file holds except for its records, or its first damage: first the superblock, then
+/// both halves, whose bytes are dropped again. It only reads.
 ///
-/// `NotACache` and `Damaged` are the first that the contents have. `Device` where the device
-/// failed, `NoMemory` where an allocation did: they say nothing of the contents.
+/// `NotACache` or `Damaged` is the first fault of the contents. `Device` if the device failed and
+/// `NoMemory` if an allocation failed; these say nothing about the contents.
 pub fn read_found<D: Disk>(alloc: Global, disk: &mut D) -> Result<FoundFile, OpenFault>
     ensures found { IsAnswer found_of result (found_in (D.view.contents disk.old)) }
     ensures other { IfOk result (λ f. f.other_open
@@ -133,8 +133,8 @@ pub fn read_found<D: Disk>(alloc: Global, disk: &mut D) -> Result<FoundFile, Ope
     walk_halves(alloc, geometry, &zero, &one)
 }
 
-/// Whether the half that counts is of an older version than is written now, so that opening the
-/// file moves it over. It is a run of reads, as [`read_found`]'s, and fails as that does.
+/// Whether the half that counts is of version 1, so that opening the file upgrades it. It only
+/// reads, as [`read_found`] does, and fails as that does.
 pub fn is_older<D: Disk>(alloc: Global, disk: &mut D) -> Result<bool, OpenFault>
     ensures older { IfOk result (λ b. (f : Found) → found_in (D.view.contents disk.old) ≡ Ok f
         → b ≡ nat_lt f.head.version entry_version) }

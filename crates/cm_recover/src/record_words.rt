@@ -1,4 +1,4 @@
-//! The words of records, read from a disk one after another.
+//! Reads the words of records from a disk, one record after another.
 
 ghost use Rattle.std.specs.Prelude.{◌≡◌, ◌≤◌, ◌+◌, ◌*◌, ◌/◌, ◌^◌, ◌⊎◌, length, Err, IfErr, OnOk};
 ghost use Rattle.cm_record_layout.specs.Packing.{packed_into};
@@ -10,16 +10,16 @@ use crate::fault::OpenFault;
 use cm_disk::Disk;
 use std::alloc::{AllocError, Global};
 
-/// The words of the record that was read last. Memory is taken by what is read, and used again.
+/// The words of the record that was read last. Reads allocate the memory, which is reused.
 #[derive(Drop)]
 pub(crate) struct RecordWords {
     bytes: Vec<u8>,
     pub(crate) words: Vec<u64>,
-    /// Where the class of the words is spelled.
+    /// Room to spell the class of the words.
     pub(crate) spelling: Vec<u8>,
 }
 
-// Puts the words of these bytes in the place of others.
+// Replaces `words` with the words of these bytes.
 fn pack(bytes: &[u8], words: &mut Vec<u64>) -> Result<(), AllocError>
     ensures { OnOk result (words.new.items ≡ packed_into (length bytes.now / 8) bytes.now) }
 {
@@ -41,7 +41,7 @@ impl RecordWords {
         }
     }
 
-    /// Reads so many words.
+    /// Reads `count` words.
     #[tactic(auto, using(cm_guards::proofs::reading))]
     pub(crate) fn read<D: Disk>(
         &mut self,

@@ -8,21 +8,21 @@ ghost use Rattle.cm_layout.specs.Rules.{broken_live_rule};
 ghost use Rattle.cm_record.specs.Names.{class_name_in};
 ghost use Rattle.cm_rows.specs.Rows.{class_of};
 
+use cm_commands::Prepared;
 use cm_layout::{ClassRow, LoaderRow, Row};
 use cm_pool::Geometry;
-use cm_prepare::Prepared;
 use cm_record::Record;
-use cm_rows::Book;
+use cm_rows::LiveRows;
 use std::alloc::{AllocError, Global};
 use std::marker::Model;
 use std::sync::Arc;
 
-/// The rows that live, twice: those that are accepted, and those that are committed. Both have one
-/// record for each class. Contracts see the rows with the words of their records.
+/// The live rows, twice: those that are accepted, and those that are committed. Both have one
+/// record for each class. Contracts describe the rows by the words of their records.
 #[derive(Drop)]
 pub(crate) struct SharedRows {
-    accepted: Book<Prepared>,
-    committed: Book<Arc<Record, Global>>,
+    accepted: LiveRows<Prepared>,
+    committed: LiveRows<Arc<Record, Global>>,
 }
 
 impl Model for SharedRows {
@@ -44,8 +44,8 @@ impl SharedRows {
     pub(crate) fn new(alloc: Global, geometry: Geometry) -> Result<SharedRows, AllocError>
         ensures { IfOk result (λ r. r ≡ record { sizes = geometry; rows = [] }) }
     {
-        let accepted = Book::new(alloc, geometry)?;
-        let committed = Book::new(alloc, geometry)?;
+        let accepted = LiveRows::new(alloc, geometry)?;
+        let committed = LiveRows::new(alloc, geometry)?;
         Ok(SharedRows {
             accepted,
             committed,
@@ -60,16 +60,16 @@ impl SharedRows {
         self.accepted.class_like(loader, class).is_some()
     }
 
-    /// A loader more, which keeps the rules behind a half's head with this base.
+    /// Adds a loader, which keeps the rules after a half's head with this base.
     pub(crate) fn push_loader(&mut self, base: u64, row: &LoaderRow)
         requires { broken_live_rule self.old.sizes base self.old.rows (Loader row.now) ≡ None }
         ensures { self.new ≡ record self.old { rows = self.old.rows ++ Loader row.now ∷ [] } }
     {
         let _accepted = self.accepted.apply_live(base, Row::Loader(*row)); // it breaks no rule
-        let _committed = self.committed.apply_live(base, Row::Loader(*row)); // nor here
+        let _committed = self.committed.apply_live(base, Row::Loader(*row)); // nor does it here
     }
 
-    /// A class more, which keeps them.
+    /// Adds a class, which keeps the rules too.
     pub(crate) fn push_class(
         &mut self,
         base: u64,
@@ -89,7 +89,7 @@ impl SharedRows {
     }
 
     /// The rows that are accepted, and those that are committed.
-    pub(crate) fn into_books(self) -> (Book<Prepared>, Book<Arc<Record, Global>>)
+    pub(crate) fn into_books(self) -> (LiveRows<Prepared>, LiveRows<Arc<Record, Global>>)
         ensures accepted { result.0 ≡ self }
         ensures sizes { result.1.sizes ≡ self.sizes }
         ensures committed { rows_with arc_value result.1.rows ≡ self.rows }

@@ -1,4 +1,4 @@
-//! What a file stands for, by a run of reads.
+//! Reads what a file stands for.
 
 ghost use Rattle.std.specs.Prelude.{◌≡◌, ◌≤◌, ◌^◌, [], List, length, Err, IfOk};
 ghost use Rattle.cm_class.specs.declared.class_file.ClassFile.{ClassFile};
@@ -12,7 +12,7 @@ ghost use Rattle.cm_commit.specs.GroupPlans.{whole_roots as whole_roots_of};
 ghost use Rattle.cm_verdict.specs.Faults.{at_slot};
 ghost use Rattle.cm_verdict.specs.Verdict.{classes_found, verdict};
 ghost use Rattle.cm_recover.specs.declared.fault.OpenFault.TheVariants as open_fault;
-ghost use Rattle.cm_recover.specs.Standing.{GoesByVerdict, IsPlace, class_in_place, IsKeptClass};
+ghost use Rattle.cm_recover.specs.Standing.{FollowsVerdict, IsPlace, class_in_place, IsKeptClass};
 ghost use Rattle.cm_recover.specs.Standing.{IsRecorded, AreRecorded, bare_of, MayFollow};
 ghost use Rattle.cm_recover.specs.Standing.{row_found, IsStanding};
 
@@ -20,30 +20,30 @@ use crate::fault::OpenFault;
 use crate::reading::read_found;
 use crate::record_words::RecordWords;
 use crate::shared_rows::SharedRows;
-use cm_commit::Journal;
+use cm_commands::Prepared;
+use cm_commit::JournalEnd;
 use cm_disk::Disk;
 use cm_layout::{ClassRow, Row, record_at, root_at, root_bytes, roots_at};
 use cm_pool::{Geometry, Place};
-use cm_prepare::Prepared;
 use cm_record::{Record, words_tell_name};
-use cm_rows::Book;
+use cm_rows::LiveRows;
 use cm_verdict::{Damage, DefinedAt, found_is_live, read_record};
 use std::alloc::{AllocError, Global};
 use std::sync::Arc;
 
-/// What a file stands for: where its journal goes on, with its sizes and the number of the last
-/// command, and the rows that live, each class with its record.
+/// What a file stands for: where its journal continues, with its sizes and the number of the last
+/// command, and the live rows, each class with its record.
 #[derive(Drop)]
 pub struct StandingFile {
-    pub journal: Journal,
+    pub journal: JournalEnd,
     /// The version of the half that counts.
     pub version: u16,
     /// How many whole roots the file has.
     pub roots: u32,
     /// The rows, for the accepted cache.
-    pub rows: Book<Prepared>,
+    pub rows: LiveRows<Prepared>,
     /// The same rows with the same records, for the file's disk.
-    pub committed: Book<Arc<Record, Global>>,
+    pub committed: LiveRows<Arc<Record, Global>>,
 }
 
 // How many whole roots a file of this length has.
@@ -84,7 +84,7 @@ struct SecondPass {
 }
 
 impl SecondPass {
-    // The class of a place, whose entry stands in this slot.
+    // The class at a place, whose entry is in this slot.
     fn class_at<D: Disk>(
         &self,
         disk: &mut D,
@@ -94,7 +94,7 @@ impl SecondPass {
     ) -> Result<Prepared, OpenFault>
         requires place { IsPlace self.now.geometry place }
         requires long { self.now.long ≡ length (D.view.contents disk.old) }
-        ensures class { GoesByVerdict IsRecorded result (at_slot slot
+        ensures class { FollowsVerdict IsRecorded result (at_slot slot
             (class_in_place self.now.geometry (D.view.contents disk.old) place)) }
         ensures reads { Reads D.view disk.old
             disk.new (result ≡ Err open_fault.Device) }
@@ -116,7 +116,7 @@ impl SecondPass {
         }
     }
 
-    // Takes a class, whose entry stands in this slot, behind the rows that were taken.
+    // Takes a class, whose entry is in this slot, after the rows already taken.
     fn take_class<D: Disk>(
         &self,
         disk: &mut D,
@@ -129,7 +129,7 @@ impl SecondPass {
         requires long { self.now.long ≡ length (D.view.contents disk.old) }
         ensures taken { (before : List (RowOf ClassFile))
             → AreRecorded self.now.geometry rows.old before
-            → GoesByVerdict (λ u. AreRecorded self.now.geometry rows.new) result
+            → FollowsVerdict (λ u. AreRecorded self.now.geometry rows.new) result
             (row_found self.now.geometry (D.view.contents disk.old) before
             (Class row (record { slot = slot }))) }
         ensures reads { Reads D.view disk.old
@@ -147,7 +147,7 @@ impl SecondPass {
         Ok(())
     }
 
-    // Takes a row, behind those that were taken.
+    // Takes a row, after those already taken.
     fn take_row<D: Disk>(
         &self,
         disk: &mut D,
@@ -159,7 +159,7 @@ impl SecondPass {
         requires long { self.now.long ≡ length (D.view.contents disk.old) }
         ensures taken { (before : List (RowOf ClassFile))
             → AreRecorded self.now.geometry rows.old before
-            → GoesByVerdict (λ u. AreRecorded self.now.geometry rows.new) result
+            → FollowsVerdict (λ u. AreRecorded self.now.geometry rows.new) result
             (row_found self.now.geometry (D.view.contents disk.old) before row.now) }
         ensures reads { Reads D.view disk.old
             disk.new (result ≡ Err open_fault.Device) }
@@ -177,11 +177,11 @@ impl SecondPass {
     fn take_all<D: Disk>(
         &self,
         disk: &mut D,
-        found: &Book<DefinedAt>,
+        found: &LiveRows<DefinedAt>,
     ) -> Result<SharedRows, OpenFault>
         requires live { LiveRowsKeep self.now.geometry self.now.number [] (bare found.now.rows) }
         requires long { self.now.long ≡ length (D.view.contents disk.old) }
-        ensures classes { GoesByVerdict (AreRecorded self.now.geometry) result
+        ensures classes { FollowsVerdict (AreRecorded self.now.geometry) result
             (classes_found self.now.geometry (D.view.contents disk.old) [] found.now.rows) }
         ensures reads { Reads D.view disk.old
             disk.new (result ≡ Err open_fault.Device) }
@@ -196,13 +196,13 @@ impl SecondPass {
     }
 }
 
-/// What a file stands for, or its first damage, by a run of reads: what is found without records
-/// first, then the records of the classes that live, in the order of their rows. Nothing changes.
+/// Reads what a file stands for, or its first damage: first what is found without records, then the
+/// records of the live classes, in the order of their rows. It only reads.
 ///
-/// `NotACache` and `Damaged` are the first that the contents have. `Device` where the device
-/// failed, `NoMemory` where an allocation did: they say nothing of the contents.
+/// `NotACache` or `Damaged` is the first fault of the contents. `Device` if the device failed and
+/// `NoMemory` if an allocation failed; these say nothing about the contents.
 pub fn read_standing<D: Disk>(alloc: Global, disk: &mut D) -> Result<StandingFile, OpenFault>
-    ensures standing { GoesByVerdict (IsStanding (D.view.contents disk.old)) result
+    ensures standing { FollowsVerdict (IsStanding (D.view.contents disk.old)) result
         (verdict (D.view.contents disk.old)) }
     ensures reads { Reads D.view disk.old disk.new
         (result ≡ Err open_fault.Device) }
@@ -220,7 +220,7 @@ pub fn read_standing<D: Disk>(alloc: Global, disk: &mut D) -> Result<StandingFil
     let rows = pass.take_all(disk, &found.walk.into_book())?;
     let (rows, committed) = rows.into_books();
     Ok(StandingFile {
-        journal: Journal {
+        journal: JournalEnd {
             geometry: found.geometry,
             half: found.counts.half,
             end,

@@ -1,4 +1,4 @@
-//! What is found in the front of a small file, and which damage is told first.
+//! What is found in the front of a small file, and which damage is reported first.
 
 use crate::disks::put;
 use crate::found::Found::{Damaged, NotACache, Sound};
@@ -8,7 +8,7 @@ use cm_verdict::Damage;
 use std::alloc::Global;
 use std::test::*;
 
-/// What is in the small file, and in one without its last group.
+/// What the small file holds, and one without its last group.
 const WHOLE: Summary = Summary {
     rows: 3,
     number: 3,
@@ -28,7 +28,7 @@ const ONE: usize = 20_480;
 
 const SLOT: usize = 64;
 
-/// A byte, what stands in its place, and what is found then.
+/// The position of a byte, its new value, and what is then found.
 const CHANGES: [(usize, u8, Found<Summary>); 28] = [
     // nothing changed
     (ZERO, 0xA5, Sound(WHOLE)),
@@ -40,18 +40,18 @@ const CHANGES: [(usize, u8, Found<Summary>); 28] = [
     (100, 1, Damaged(Damage::Superblock, 0)),
     // more slots than the file has room for
     (21, 2, Damaged(Damage::Length, 0)),
-    // no half is open; the head of half 0 is of another version, or of an epoch that is none or
-    // still to come; the head of half 1 is blank
+    // no half is open; the head of half 0 is of an unknown version, or of an epoch that doesn't
+    // exist or is too late; the head of half 1 is blank
     (ZERO, 0, Damaged(Damage::Halves, 0)),
     (ZERO + 2, 0, Damaged(Damage::Head, 0)),
     (ZERO + 2, 3, Damaged(Damage::Head, 0)),
     (ZERO + 8, 0, Damaged(Damage::Head, 0)),
     (ZERO + 8, 3, Damaged(Damage::Head, 0)),
     (ONE, 0xA5, Damaged(Damage::Head, 256)),
-    // the version before, and the epoch that a file has which was moved over when it was empty
+    // version 1, and the epoch of a file that was upgraded when it was empty
     (ZERO + 2, 1, Sound(WHOLE)),
     (ZERO + 8, 2, Sound(WHOLE)),
-    // a group of none, of another number, of 65 entries
+    // a group of no entries, of a wrong number, of 65 entries
     (ZERO + SLOT + 2, 0, Damaged(Damage::Head, 1)),
     (ZERO + 3 * SLOT + 8, 3, Damaged(Damage::Head, 3)),
     (ZERO + 3 * SLOT + 2, 65, Damaged(Damage::Head, 3)),
@@ -59,10 +59,10 @@ const CHANGES: [(usize, u8, Found<Summary>); 28] = [
     (ZERO + 5 * SLOT, 0xA4, Sound(SHORT)),
     (ZERO + 5 * SLOT, 0, Sound(SHORT)),
     (ZERO + 5 * SLOT, 0xFF, Sound(SHORT)),
-    // no entry, padding that isn't 0
+    // no entry; padding that isn't 0
     (ZERO + 4 * SLOT + 1, 0x15, Damaged(Damage::Slot, 4)),
     (ZERO + 4 * SLOT + 63, 1, Damaged(Damage::Slot, 4)),
-    // a name of no bytes, a loader of another number, a class of no loader
+    // a name of no bytes, a loader of a wrong number, a class of no loader
     (ZERO + 2 * SLOT + 2, 0, Damaged(Damage::Slot, 2)),
     (ZERO + 2 * SLOT + 8, 2, Damaged(Damage::Rows, 2)),
     (ZERO + 4 * SLOT + 8, 2, Damaged(Damage::Rows, 4)),
@@ -71,7 +71,7 @@ const CHANGES: [(usize, u8, Found<Summary>); 28] = [
     (ZERO + 6 * SLOT + 28, 15, Damaged(Damage::Chunks, 6)),
 ];
 
-// What is found with another byte at a place.
+// What is found with another byte at a position.
 fn find_damage(alloc: Global, front: &[u8], at: usize, byte: u8) -> Result<Told, Fail> {
     let mut bytes = Vec::from_slice(alloc, front)?;
     put(&mut bytes, at, byte);

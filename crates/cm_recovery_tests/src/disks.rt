@@ -12,7 +12,7 @@ pub fn bytes_of(alloc: Global, disk: &mut SimDisk) -> Result<Vec<u8>, Fail> {
     Ok(bytes)
 }
 
-/// A disk of these bytes, which are stored.
+/// A disk of these bytes, which are durable.
 pub fn disk_of(alloc: Global, bytes: &[u8]) -> Result<SimDisk, Fail> {
     let mut disk = SimDisk::new(alloc);
     if bytes.len() < 100_000 {
@@ -22,7 +22,7 @@ pub fn disk_of(alloc: Global, bytes: &[u8]) -> Result<SimDisk, Fail> {
     Ok(disk)
 }
 
-/// Puts a byte at a place, if there is one.
+/// Writes a byte at a position, if there is one.
 pub fn put(bytes: &mut [u8], at: usize, byte: u8) {
     if let Some(there) = bytes.get_mut(at) {
         *there = byte;

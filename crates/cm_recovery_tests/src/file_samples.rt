@@ -1,12 +1,12 @@
 //! Files of one loader with two classes, each in a group of its own, with their records.
 
 use crate::disks::put;
+use cm_commands::{Prepared, prepare};
 use cm_layout::{
     ClassRow, ENTRY_VERSION, GroupHead, HalfHead, LoaderRow, SLOT_BYTES, SUPERBLOCK_BYTES,
     SlotName, Superblock,
 };
 use cm_pool::{Chunk, Geometry, Place};
-use cm_prepare::{Prepared, prepare};
 use std::alloc::Global;
 use std::test::Fail;
 
@@ -14,7 +14,7 @@ use std::test::Fail;
 pub const CLASS_A: &[u8] = b"cafebabe000000340005070002010001410700040100106a6176612f6c616e672f4f\
     626a6563740021000100030000000000000000";
 
-// Where its name stands.
+// The position of its name.
 const NAME_AT: usize = 16;
 
 /// The class `B` with an attribute of no bytes, whose record has 20 words.

@@ -5,8 +5,8 @@ use cm_recover::{OpenFault, read_found};
 use cm_verdict::{Damage, FileFault, HalfWalk};
 use std::alloc::Global;
 
-/// What is found in a file: how many rows live, the number of the last command, and the slot where
-/// the groups end.
+/// What is found in a file: how many live rows there are, the number of the last command, and the
+/// slot where the groups end.
 #[derive(Clone, Copy, Debug, PartialEq, Eq)]
 pub struct Summary {
     pub rows: usize,
@@ -14,7 +14,7 @@ pub struct Summary {
     pub end: u32,
 }
 
-/// What is in a new file.
+/// What a new file holds.
 pub const NEW: Summary = Summary {
     rows: 0,
     number: 0,
@@ -24,7 +24,7 @@ pub const NEW: Summary = Summary {
 /// The empty cache.
 pub const EMPTY: Result<Summary, OpenFault> = Ok(NEW);
 
-/// What is to be found, so that a test is a table of changes and what is found then.
+/// What should be found, so that a test is a table of changes and what is then found.
 pub enum Found<S> {
     Sound(S),
     NotACache,
@@ -32,7 +32,7 @@ pub enum Found<S> {
 }
 
 impl<S: Copy> Found<S> {
-    /// In bytes.
+    /// The result for bytes.
     pub fn in_bytes(&self) -> Result<S, FileFault> {
         match self {
             Found::Sound(summary) => Ok(*summary),
@@ -44,7 +44,7 @@ impl<S: Copy> Found<S> {
         }
     }
 
-    /// On a disk.
+    /// The result for a disk.
     pub fn on_disk(&self) -> Result<S, OpenFault> {
         match self {
             Found::Sound(summary) => Ok(*summary),
@@ -57,7 +57,7 @@ impl<S: Copy> Found<S> {
     }
 }
 
-/// What the groups of a half tell.
+/// What the groups of a half contain.
 pub fn tell_half(walk: HalfWalk) -> Summary {
     let (number, end) = (walk.number(), walk.end());
     Summary {

@@ -8,7 +8,7 @@ use crate::file_samples::push_halves;
 use crate::found::{Summary, tell_half};
 use cm_layout::{Half, SLOT_BYTES, SUPERBLOCK_BYTES, Superblock};
 use cm_pool::Geometry;
-use cm_rows::Book;
+use cm_rows::LiveRows;
 use cm_verdict::{Counting, FileFault, counting_half, find_sizes, walk_through};
 use std::alloc::Global;
 use std::test::Fail;
@@ -32,7 +32,7 @@ fn sizes(alloc: Global, front: &[u8]) -> Result<Result<Geometry, FileFault>, Fai
     Ok(find_sizes(front.len() as u64, &filled))
 }
 
-// What the groups of a half tell.
+// What the groups of a half contain.
 fn walk_half(
     alloc: Global,
     geometry: Geometry,
@@ -42,7 +42,7 @@ fn walk_half(
     requires good { IsGoodHead geometry counts.now.head }
     requires long { length half.now ≡ 64 * geometry.slots }
 {
-    let book = Book::new(alloc, geometry)?;
+    let book = LiveRows::new(alloc, geometry)?;
     match walk_through(geometry, book, counts, half) {
         Ok(walk) => Ok(Ok(tell_half(walk))),
         Err(fault) => Ok(Err(fault)),
@@ -60,7 +60,7 @@ fn both_halves(front: &[u8], size: usize) -> Option<(&[u8], &[u8])>
     Some((zero, one))
 }
 
-// What the heads of two halves tell.
+// What the heads of two halves say.
 fn count(geometry: Geometry, zero: &[u8], one: &[u8]) -> Option<Result<Counting, FileFault>>
     ensures good { IfSome result (λ answer.
         IfOk answer (λ counts. IsGoodHead geometry counts.head)) }

@@ -1,5 +1,5 @@
 //! Loaders whose names take two slots: what is found in the front of a file, and which damage is
-//! told first.
+//! reported first.
 
 use crate::disks::put;
 use crate::found::Found::{Damaged, Sound};
@@ -21,10 +21,10 @@ const SLOT: usize = 64;
 /// How long a front is, up to its roots.
 const LONG: usize = 36_864;
 
-/// The most numbers that a file has.
+/// The greatest number that a file may have.
 const LAST: u64 = 1 << 63;
 
-/// Names: two of 49 bytes that differ in the last one, and one of 96.
+/// Names: two of 49 bytes that differ only in the last one, and one of 96.
 const FIRST: &[u8] = b"aaaaaaaaaaaaaaaaaaaaaaaaaaaaaaaaaaaaaaaaaaaaaaaaa";
 
 const SECOND: &[u8] = b"aaaaaaaaaaaaaaaaaaaaaaaaaaaaaaaaaaaaaaaaaaaaaaaab";
@@ -35,7 +35,7 @@ const THIRD: &[u8] = &[b'e'; 96];
 type Group<'a> = (u16, &'a [&'a [u8]]);
 
 /// What a half holds: the head's version, slots of live rows, epoch and base; the numbers and names
-/// of the loaders that live; and groups.
+/// of the live loaders; and groups.
 #[derive(Clone, Copy)]
 struct Sample<'a> {
     head: HalfHead,
@@ -50,7 +50,7 @@ fn push_loader(bytes: &mut Vec<u8>, number: u64, name: &[u8]) -> Result<(), Fail
     Ok(())
 }
 
-/// The number of the last command then.
+/// Adds a group, and returns the number of the last command then.
 fn push_group(bytes: &mut Vec<u8>, number: u64, group: Group<'_>) -> Result<u64, Fail> {
     let (count, names) = group;
     let mut number = number;
@@ -140,14 +140,14 @@ const CHANGED_GROUPS: [(usize, u8, Found<Summary>); 34] = [
     // another name
     (ZERO + 3 * SLOT + 16, b'~', Sound(FIVE)),
     (ZERO + 12 * SLOT + 63, b'!', Sound(FIVE)),
-    // the version before has no name of 49 bytes
+    // version 1 has no name of 49 bytes
     (ZERO + 2, 1, Damaged(Damage::Slot, 2)),
-    // no rest after the loader: another slot, a gate that is open
+    // no continuation slot after the loader: another slot, a gate that is open
     (ZERO + 3 * SLOT + 1, 0x00, Damaged(Damage::Slot, 2)),
     (ZERO + 3 * SLOT + 1, 0x11, Damaged(Damage::Slot, 2)),
     (ZERO + 3 * SLOT + 1, 0x17, Damaged(Damage::Slot, 2)),
     (ZERO + 3 * SLOT, 0xA5, Damaged(Damage::Slot, 2)),
-    // a byte of the rest that has to be 0
+    // a byte of the continuation slot that has to be 0
     (ZERO + 3 * SLOT + 2, 1, Damaged(Damage::Slot, 2)),
     (ZERO + 3 * SLOT + 15, 1, Damaged(Damage::Slot, 2)),
     (ZERO + 3 * SLOT + 17, b'a', Damaged(Damage::Slot, 2)),
@@ -155,11 +155,11 @@ const CHANGED_GROUPS: [(usize, u8, Found<Summary>); 34] = [
     (ZERO + 6 * SLOT + 17, b'b', Damaged(Damage::Slot, 5)),
     // a byte of the loader's own slot that has to be 0
     (ZERO + 2 * SLOT + 3, 1, Damaged(Damage::Slot, 2)),
-    // the length of another name, of which the rest has too many bytes
+    // the length of another name, for which the continuation slot has too many bytes
     (ZERO + 11 * SLOT + 2, 95, Damaged(Damage::Slot, 11)),
     (ZERO + 2 * SLOT + 2, 97, Damaged(Damage::Slot, 2)),
     (ZERO + 2 * SLOT + 2, 255, Damaged(Damage::Slot, 2)),
-    // or of one that needs no rest, which stands there all the same
+    // the length of a name that needs no continuation slot, which is there nevertheless
     (ZERO + 2 * SLOT + 2, 48, Damaged(Damage::Slot, 3)),
     (ZERO + 5 * SLOT + 2, 48, Damaged(Damage::Slot, 6)),
     // a byte that no name has, in either slot
@@ -170,17 +170,17 @@ const CHANGED_GROUPS: [(usize, u8, Found<Summary>); 34] = [
     (ZERO + 3 * SLOT + 16, 0x00, Damaged(Damage::Rows, 2)),
     (ZERO + 2 * SLOT + 2, 50, Damaged(Damage::Rows, 2)),
     (ZERO + 12 * SLOT + 63, 0x20, Damaged(Damage::Rows, 11)),
-    // the name of a loader that lives
+    // the name of a live loader
     (ZERO + 6 * SLOT + 16, b'a', Damaged(Damage::Rows, 5)),
-    // another number
+    // a wrong number
     (ZERO + 5 * SLOT + 8, 3, Damaged(Damage::Rows, 5)),
     // a group that ends between the two slots
     (ZERO + SLOT + 2, 1, Damaged(Damage::Slot, 2)),
     (ZERO + 9 * SLOT + 2, 2, Damaged(Damage::Slot, 11)),
-    // a rest first in its group, and one after a short name
+    // a continuation slot first in its group, and one after a short name
     (ZERO + 8 * SLOT + 1, 0x16, Damaged(Damage::Slot, 8)),
     (ZERO + 11 * SLOT + 1, 0x16, Damaged(Damage::Slot, 11)),
-    // a group that counts the rest before it, and one whose gate isn't open
+    // a group that counts the continuation slot before it, and one whose gate isn't open
     (ZERO + 4 * SLOT + 8, 3, Damaged(Damage::Head, 4)),
     (
         ZERO + 4 * SLOT,
@@ -200,7 +200,7 @@ fn a_rest_belongs_to_the_loader_before_it(rt: HostRuntime) -> Result<(), Fail> {
     Ok(())
 }
 
-/// Puts the rest of the name `FIRST` into a slot of half 0.
+/// Writes the continuation slot of the name `FIRST` over a slot of half 0.
 fn put_rest(bytes: &mut [u8], slot: usize) {
     let at = ZERO.wrapping_add(slot.wrapping_mul(SLOT));
     for place in 0..SLOT {
@@ -210,18 +210,18 @@ fn put_rest(bytes: &mut [u8], slot: usize) {
     put(bytes, at.wrapping_add(16), b'a');
 }
 
-/// Slots into which that rest is put, and what is found then.
+/// Slots that are overwritten with that continuation slot, and what is then found.
 const RESTS: [(usize, Found<Summary>); 6] = [
     // its own
     (3, Sound(FIVE)),
-    // that of the name which differs there alone
+    // that of the name which differs only there
     (6, Damaged(Damage::Rows, 5)),
     // first in a group, of one slot and of more
     (8, Damaged(Damage::Slot, 8)),
     (10, Damaged(Damage::Slot, 10)),
     // after a short name
     (11, Damaged(Damage::Slot, 11)),
-    // after a name of 96 bytes, 47 of which are 0 then: it is spelled, but no loader may have it
+    // after a name of 96 bytes, 47 of which are then 0: it is spelled, but no loader may have it
     (12, Damaged(Damage::Rows, 11)),
 ];
 
@@ -242,7 +242,7 @@ fn a_rest_elsewhere_is_damage(rt: HostRuntime) -> Result<(), Fail> {
 
 #[test]
 fn a_rest_behind_a_class_is_damage(rt: HostRuntime) -> Result<(), Fail> {
-    // the group of the first class has a slot more, where the second class's group begins
+    // the group of the first class has one more slot, where the second class's group begins
     let mut front = small_front(rt.alloc())?;
     put(&mut front, ZERO + 3 * SLOT + 2, 2);
     put_rest(&mut front, 5);
@@ -254,7 +254,7 @@ fn a_rest_behind_a_class_is_damage(rt: HostRuntime) -> Result<(), Fail> {
     Ok(())
 }
 
-/// Rows that live in slots 1 and 2, and 3, and a group in slots 4 to 6.
+/// Live rows in slots 1 and 2, and 3, and a group in slots 4 to 6.
 const LIVING: Sample<'_> = Sample {
     head: LATER,
     live: &[(1, FIRST), (3, b"c")],
@@ -271,7 +271,7 @@ const CHANGED_ROWS: [(usize, u8, Found<Summary>); 14] = [
     // nothing changed
     (ZERO, 0xA5, Sound(THREE)),
     (ZERO + 2, 1, Damaged(Damage::Slot, 1)),
-    // no slot of live rows, one, two, and four, where a group's head stands
+    // no slot of live rows, one, two, and four, where a group's head is
     (
         ZERO + 4,
         0,
@@ -292,11 +292,12 @@ const CHANGED_ROWS: [(usize, u8, Found<Summary>); 14] = [
         }),
     ),
     (ZERO + 4, 4, Damaged(Damage::Slot, 4)),
-    // another slot for the rest, a byte in it that no name has, and one that has to be 0
+    // another slot instead of the continuation slot, a byte in it that no name has, and one that
+    // has to be 0
     (ZERO + 2 * SLOT + 1, 0x11, Damaged(Damage::Slot, 1)),
     (ZERO + 2 * SLOT + 16, 0x20, Damaged(Damage::Rows, 1)),
     (ZERO + 2 * SLOT + 17, 0x61, Damaged(Damage::Slot, 1)),
-    // a rest after a short name, after another rest, and first of all
+    // a continuation slot after a short name, after another one, and first of all
     (ZERO + SLOT + 2, 48, Damaged(Damage::Slot, 2)),
     (ZERO + 3 * SLOT + 1, 0x16, Damaged(Damage::Slot, 3)),
     (ZERO + SLOT + 1, 0x16, Damaged(Damage::Slot, 1)),
@@ -312,7 +313,8 @@ fn live_rows_have_rests_too(rt: HostRuntime) -> Result<(), Fail> {
     Ok(())
 }
 
-/// A version, a base, a group after it, and what is found then. A rest takes no number.
+/// A version, a base, a group after it, and what is then found. A continuation slot takes no
+/// number.
 const NUMBERS: [(u16, u64, Group<'_>, Found<Summary>); 7] = [
     (
         ENTRY_VERSION,
@@ -347,7 +349,7 @@ const NUMBERS: [(u16, u64, Group<'_>, Found<Summary>); 7] = [
             end: 6,
         }),
     ),
-    // in the version before each slot takes one
+    // in version 1 each slot takes one
     (
         OLDEST_VERSION,
         LAST - 1,
@@ -382,7 +384,7 @@ fn a_rest_takes_no_number(rt: HostRuntime) -> Result<(), Fail> {
     Ok(())
 }
 
-/// Of this many long names one after another: each ends with two digits of its own.
+/// One of up to 100 long names: each ends with two digits of its own.
 fn long_name(at: usize) -> [u8; 96] {
     let mut name = [b'l'; 96];
     name[94] = b'0' + (at / 10 % 10) as u8;
@@ -390,8 +392,8 @@ fn long_name(at: usize) -> [u8; 96] {
     name
 }
 
-/// How many long names stand in a half, each in a group of its own; the names in one more; and what
-/// is found then. What lives takes at most 128 slots.
+/// How many long names a half holds, each in a group of its own; the names in one more; and what is
+/// then found. Live rows take at most 128 slots.
 const FULL: [(usize, Group<'_>, Found<Summary>); 6] = [
     (
         63,

@@ -9,7 +9,8 @@ use std::test::*;
 
 const NONE: Result<Summary, OpenFault> = Err(OpenFault::NotACache);
 
-// Whether a disk becomes a file of these sizes; its length, its syncs, and what is found in it.
+// Makes a disk a file of these sizes. Returns whether that succeeds, its length, its syncs, and
+// what is found in it.
 fn make(
     alloc: Global,
     disk: &mut SimDisk,
@@ -37,7 +38,7 @@ fn a_new_file_is_the_empty_cache(rt: HostRuntime) -> Result<(), Fail> {
     Ok(())
 }
 
-// What comes of a disk of one byte that is to become a file; and its length, byte and syncs then.
+// The result of making a file on a disk of one byte; and then its length, byte and syncs.
 fn make_of_byte(
     alloc: Global,
     disk: &mut SimDisk,
@@ -61,7 +62,7 @@ fn a_file_that_has_bytes_stays(rt: HostRuntime) -> Result<(), Fail> {
     Ok(())
 }
 
-/// Lets this many calls through; a write that fails stores this many bytes.
+/// Lets this many calls succeed; a write that fails stores this many bytes.
 fn stop_making(
     alloc: Global,
     pass: u64,
@@ -73,26 +74,26 @@ fn stop_making(
     Ok((made, fuse.into_inner()))
 }
 
-/// How many calls are let through, how many bytes a write stores that fails, the length and the
-/// bytes that a crash leaves if it may, and what is found then.
+/// How many calls succeed, how many bytes a failing write stores, the length and the bytes that a
+/// crash leaves if it may, and what is then found.
 const LEFT: [(u64, usize, u64, &[u8], Result<Summary, OpenFault>); 14] = [
-    // the length isn't told
+    // the length isn't returned
     (0, 0, 0, b"", NONE),
-    // the first write fails, its sync does
+    // the first write fails; its sync fails
     (1, 0, 36_864, b"", NONE),
     (1, 5_000, 36_864, b"", NONE),
     (1, 36_864, 36_864, b"", NONE),
     (2, 0, 36_864, b"", NONE),
     (2, 0, 4_095, b"", NONE),
     (2, 0, 36_864, b"CMCACHE1", NONE),
-    // the gate's write fails, its sync does
+    // the gate's write fails; its sync fails
     (3, 0, 36_864, b"", NONE),
     (3, 0, 36_864, b"\xA5", EMPTY),
     (3, 1, 36_864, b"", EMPTY),
     (3, 1, 36_864, b"\xA4", NONE),
     (4, 0, 36_864, b"", EMPTY),
     (4, 0, 36_864, b"\0", NONE),
-    // all is stored
+    // all is durable
     (5, 0, 0, b"\0", EMPTY),
 ];
 

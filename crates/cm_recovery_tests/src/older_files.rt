@@ -1,4 +1,4 @@
-//! Files of an older version are moved over when they are opened.
+//! Files of version 1 are upgraded when they are opened.
 
 use crate::disks::{bytes_of, disk_of, put};
 use crate::file_samples::{CLASS_A, CLASS_B, file_of};
@@ -15,11 +15,11 @@ const HALF_0: usize = 4_096;
 
 const HALF_1: usize = 20_480;
 
-/// Where a head has its version.
+/// The position of the version in a head.
 const VERSION_AT: usize = 2;
 
-/// How many calls opening the file of two classes takes if it isn't moved over: a sync, the
-/// length, the superblock, both halves, the length again, and two records.
+/// How many calls opening the file of two classes takes if it isn't upgraded: a sync, the length,
+/// the superblock, both halves, the length again, and two records.
 const CALLS: u64 = 8;
 
 /// The number of the last command, and how many words the records of `A` and `B` have.
@@ -91,7 +91,7 @@ fn moving_over_takes_six_calls(rt: HostRuntime) -> Result<(), Fail> {
     Ok(())
 }
 
-/// How long the file is that a crash leaves, and what its loose bytes are.
+/// How long the file is that a crash leaves, and what its unsynced bytes are.
 const LEFT: [(u64, &[u8]); 5] = [
     (0, b""),
     (1 << 40, b""),
@@ -100,7 +100,7 @@ const LEFT: [(u64, &[u8]); 5] = [
     (1 << 40, b"\xA5\xA5\xA5\xA5\xA5"),
 ];
 
-/// What is opened after a call failed and a crash came.
+/// The result of opening after a call failed and a crash came.
 fn open_after(alloc: Global, pass: u64, left: (u64, &[u8])) -> Result<Told, Fail> {
     let file = file_of_version(alloc, 1)?;
     let (_, mut disk) = open_fused(alloc, disk_of(alloc, &file)?, pass, 3);
@@ -143,7 +143,7 @@ fn an_empty_older_file_is_moved_over(rt: HostRuntime) -> Result<(), Fail> {
     Ok(())
 }
 
-/// What checking says of the file with this version, and another byte at a place.
+/// The result of checking the file with this version, and another byte at a position.
 fn check_with(alloc: Global, version: u8, at: usize, byte: u8) -> Result<Option<OpenFault>, Fail> {
     let mut file = file_of_version(alloc, version)?;
     put(&mut file, at, byte);
@@ -168,7 +168,7 @@ fn an_older_file_keeps_its_rules(rt: HostRuntime) -> Result<(), Fail> {
     assert_eq!(rt; check_with(alloc, 1, HALF_0 + 8, 1)?, None);
     assert_eq!(rt; check_with(alloc, 1, HALF_0 + 8, 2)?, head);
     assert_eq!(rt; check_with(alloc, 2, HALF_0 + 8, 2)?, None);
-    // a name of 49 bytes is none
+    // a name of 49 bytes isn't allowed
     let slot = Some(OpenFault::Damaged {
         what: Damage::Slot,
         slot: 2,

@@ -1,4 +1,4 @@
-//! What is found in a file by reads, and which damage is told first.
+//! What is found in a file by reads, and which damage is reported first.
 
 use crate::found::Found::{Damaged, NotACache, Sound};
 use crate::found::{EMPTY, Found, NEW, Summary, find_in};
@@ -21,7 +21,7 @@ fn small(alloc: Global) -> Result<SimDisk, Fail> {
 
 type Told = Result<Summary, OpenFault>;
 
-/// A byte of a new file, what stands in its place, and what is found then.
+/// The position of a byte of a new file, its new value, and what is then found.
 const CHANGES: [(u64, u8, Found<Summary>); 9] = [
     (0, b'C', Sound(NEW)),
     (0, b'c', NotACache),

@@ -1,4 +1,4 @@
-//! What is reported of files that hold a cache.
+//! What is reported about files that hold a cache.
 
 use crate::disks::{bytes_of, disk_of};
 use crate::stored_calls::Call::{Define, Loader, Tighten, Unload, UnloadAll};
@@ -37,7 +37,7 @@ const CASES: [(&[Call], [usize; 3], u64); 11] = [
     (&[], [0, 0, 0], 0),
     (&[Loader(b'a')], [1, 0, 0], 1),
     (&TWO, [2, 2, 2], 4),
-    // a loader that is gone, with its classes and chunks
+    // a loader that is unloaded, with its classes and chunks
     (&[Loader(b'a'), Unload(b'a')], [0, 0, 0], 2),
     (
         &[Loader(b'a'), Define(b'a', b'A'), Unload(b'a')],
@@ -55,7 +55,7 @@ const CASES: [(&[Call], [usize; 3], u64); 11] = [
         [1, 1, 1],
         5,
     ),
-    // and one more of its name
+    // one more of the same name
     (
         &[
             Loader(b'a'),
@@ -133,7 +133,7 @@ const CASES: [(&[Call], [usize; 3], u64); 11] = [
     ),
 ];
 
-/// What a file says.
+/// The result of checking a file.
 type Told = Result<Report, OpenFault>;
 
 fn tell_after(alloc: Global, calls: &[Call]) -> Result<Told, Fail> {
@@ -147,7 +147,7 @@ fn what_commands_leave_is_counted(rt: HostRuntime) -> Result<(), Fail> {
         let told = tell_after(rt.alloc(), calls)?;
         let [loaders, classes, chunks] = *counts;
         let expected = report(loaders, classes, chunks, *number);
-        assert_eq!(rt; told, expected, "behind {number} commands");
+        assert_eq!(rt; told, expected, "after {number} commands");
     }
     Ok(())
 }
@@ -174,8 +174,8 @@ fn tell_of_many(alloc: Global, classes: u8) -> Result<Told, Fail> {
     tell_after(alloc, &calls)
 }
 
-// 127 groups of two slots, after the half's head, fill all but one of its 256 slots. One more
-// group stands after 127 live rows in the other half.
+// 127 groups of two slots, after the half's head, fill all but one of its 256 slots. One more group
+// is after 127 live rows in the other half.
 #[test]
 fn a_full_journal_is_counted(rt: HostRuntime) -> Result<(), Fail> {
     assert_eq!(rt; tell_of_many(rt.alloc(), 35)?, report(92, 35, 3, 127));
@@ -183,7 +183,7 @@ fn a_full_journal_is_counted(rt: HostRuntime) -> Result<(), Fail> {
     Ok(())
 }
 
-// What a file says, and whether its bytes and its syncs are what they were.
+// The result of checking a file, and whether its bytes and its syncs are what they were.
 fn look(alloc: Global, disk: &mut SimDisk) -> Result<(Told, bool, bool), Fail> {
     let (before, syncs) = (bytes_of(alloc, disk)?, disk.syncs());
     let told = check(alloc, disk);
@@ -203,7 +203,8 @@ fn a_file_is_looked_at_by_reads_alone(rt: HostRuntime) -> Result<(), Fail> {
     Ok(())
 }
 
-// What a file of these bytes says where a call fails after this many, and then if none does.
+// The result of checking a file of these bytes if a call fails after this many, and then if none
+// does.
 fn tell_behind(alloc: Global, bytes: &[u8], pass: u64) -> Result<(Told, Told), Fail> {
     let mut fuse = FuseDisk::new(disk_of(alloc, bytes)?, pass, 0);
     let told = check(alloc, &mut fuse);
@@ -212,7 +213,7 @@ fn tell_behind(alloc: Global, bytes: &[u8], pass: u64) -> Result<(Told, Told), F
     Ok((told, check(alloc, &mut disk)))
 }
 
-// After how many calls a failure is the first that is told otherwise. The seven calls are the
+// After how many calls a failure is the first to give a wrong result. The seven calls are the
 // length, the superblock, both halves, the length again, and two records.
 fn first_other(alloc: Global, bytes: &[u8]) -> Result<Option<u64>, Fail> {
     let whole = report(2, 2, 2, 4);

@@ -11,7 +11,7 @@ fn chunk(root: u32, order: u32, at: u32) -> Chunk {
     Chunk { root, order, at }
 }
 
-/// Whether a slot has these bytes at a place.
+/// Whether a slot has these bytes at a position.
 fn has(slot: &[u8], at: usize, bytes: &[u8]) -> bool {
     match slot.get(at..) {
         Some(rest) => rest.starts_with(bytes),
@@ -47,7 +47,7 @@ fn heads_of_groups_are_written_and_read(rt: HostRuntime) {
     assert_eq!(rt; GroupHead::decode(&slot), Some(group));
 }
 
-/// The entry that a slot spells alone, in the version that is written.
+/// The entry that a slot spells by itself, in the version that is written.
 fn entry_in(slot: &[u8; SLOT_BYTES]) -> Option<Entry<()>> {
     Entry::decode(ENTRY_VERSION, slot)
 }
@@ -78,7 +78,7 @@ fn loader_slots(name: &[u8]) -> Result<Slots, Fail> {
     Ok(Entry::Live(loader).encode())
 }
 
-/// The loader that slots are read to begin with, by an entry and by a row alike.
+/// The loader with which these slots begin, read as an entry and as a row, which agree.
 fn loader_in(version: u16, slots: &[u8]) -> Option<LoaderRow> {
     if slots.len() < SLOT_BYTES {
         return None;
@@ -94,7 +94,7 @@ fn loader_in(version: u16, slots: &[u8]) -> Option<LoaderRow> {
     }
 }
 
-/// Whether slots are read to begin with loader 9, of this name.
+/// Whether these slots begin with loader 9, of this name.
 fn is_loader(version: u16, slots: &[u8], name: &[u8]) -> bool {
     match loader_in(version, slots) {
         Some(row) => row.number == 9 && row.name.as_bytes() == name,
@@ -119,7 +119,7 @@ fn a_name_of_49_bytes_goes_on_in_the_next_slot(rt: HostRuntime) -> Result<(), Fa
     assert!(rt; bytes.len() == 128 && has(bytes, 0, &[0, 0x11, 49, 0, 0, 0, 0, 0, 9, 0]));
     assert!(rt; has(bytes, 63, &[b'a', 0, 0x16, 0]) && has(bytes, 79, &[0, b'a', 0]));
     assert!(rt; is_loader(ENTRY_VERSION, bytes, &[b'a'; 49]));
-    // the first version knows no such name, and one slot is too few for it
+    // version 1 has no such name, and one slot is too few for it
     assert!(rt; loader_in(OLDEST_VERSION, bytes).is_none());
     let first = bytes.get(..64).ok_or("two slots")?;
     assert!(rt; loader_in(ENTRY_VERSION, first).is_none());
@@ -140,11 +140,11 @@ fn a_name_of_48_bytes_fills_its_slot_and_one_of_96_both(rt: HostRuntime) -> Resu
     Ok(())
 }
 
-/// Places in the two slots of a name of 49 bytes, bytes there, and how long the name is that is
-/// read then, if one is.
+/// Positions in the two slots of a name of 49 bytes, bytes there, and how long the name then read
+/// is, if there is one.
 const LONG_NAMES: [(usize, u8, Option<usize>); 14] = [
     (63, b'a', Some(49)),
-    // a byte that no name has is read all the same
+    // a byte that no name has is still read
     (63, 0, Some(49)),
     (80, b' ', Some(49)),
     // its length says how many slots it has
@@ -152,14 +152,14 @@ const LONG_NAMES: [(usize, u8, Option<usize>); 14] = [
     (2, 50, Some(50)),
     (2, 96, Some(96)),
     (2, 97, None),
-    // a rest of another form
+    // a continuation slot of a wrong form
     (64, 1, None),
     (65, 0x11, None),
     (66, 1, None),
     (79, 1, None),
     (81, b'a', None),
     (127, 1, None),
-    // and a loader's slot of another form
+    // a loader's slot of a wrong form
     (3, 1, None),
 ];
 
@@ -242,7 +242,7 @@ fn unloadings_of_several_are_written_and_read(rt: HostRuntime) -> Result<(), Fai
     Ok(())
 }
 
-/// Places in the slot of an unloading of two loaders, and bytes there with which it is none.
+/// Positions in the slot of an unloading of two loaders, and bytes there that make it invalid.
 const NO_UNLOADINGS: [(usize, u8); 6] = [(0, 1), (2, 0), (2, 1), (2, 8), (3, 1), (63, 1)];
 
 #[test]

@@ -1,4 +1,4 @@
-//! What files stand for, and which damage of a record is told first.
+//! What files stand for, and which damage of a record is reported first.
 
 use crate::disks::{disk_of, put};
 use crate::file_samples::{CLASS_A, CLASS_B, ROOTS_AT, file_of};
@@ -10,8 +10,9 @@ use cm_verdict::Damage;
 use std::alloc::Global;
 use std::test::*;
 
-/// What a file stands for: how many rows live, twice, how many words the records of class `A` and
-/// `B` have, the number of the last command, the slot where the groups end, and the whole roots.
+/// What a file stands for: how many live rows there are, twice, how many words the records of class
+/// `A` and `B` have, the number of the last command, the slot where the groups end, and the whole
+/// roots.
 #[derive(Clone, Copy, Debug, PartialEq, Eq)]
 struct Summary {
     rows: usize,
@@ -54,7 +55,7 @@ fn read_standing_of<D: Disk>(alloc: Global, disk: &mut D) -> Told {
     Ok(summary_of(&file))
 }
 
-/// A byte of the file, what stands in its place, and what is found then.
+/// The position of a byte of the file, its new value, and what is then found.
 const CHANGES: [(usize, u8, Found<Summary>); 7] = [
     // nothing changed
     (0, b'C', Sound(WHOLE)),
@@ -62,7 +63,7 @@ const CHANGES: [(usize, u8, Found<Summary>); 7] = [
     (4_508, 15, Damaged(Damage::Chunks, 6)),
     // the second class in a root that the file doesn't have
     (4_496, 1, Damaged(Damage::Chunks, 6)),
-    // a constant of no kind, in the record of the first class and in that of the second
+    // a constant of an unknown kind, in the record of the first class and in that of the second
     (ROOTS_AT + 72, 2, Damaged(Damage::Record, 4)),
     (ROOTS_AT + 200, 2, Damaged(Damage::Record, 6)),
     // the name of the second class is that of the first
@@ -77,7 +78,7 @@ fn tell_standing(alloc: Global, bytes: &[u8]) -> Result<Told, Fail> {
     Ok(read_standing_of(alloc, &mut disk))
 }
 
-/// And with another byte at a place.
+/// The same with another byte at a position.
 fn tell_with(alloc: Global, file: &[u8], at: usize, byte: u8) -> Result<Told, Fail> {
     let mut bytes = Vec::from_slice(alloc, file)?;
     put(&mut bytes, at, byte);
@@ -145,7 +146,7 @@ fn tell_behind(alloc: Global, file: &[u8], pass: u64) -> Result<(Told, Told), Fa
     Ok((broken, read_standing_of(alloc, &mut disk)))
 }
 
-// After how many calls a failure is the first that is told otherwise.
+// After how many calls a failure is the first to give a wrong result.
 fn first_other_failure(alloc: Global, file: &[u8]) -> Result<Option<u64>, Fail> {
     for pass in 0..7 {
         if tell_behind(alloc, file, pass)? != (Err(OpenFault::Device), Ok(WHOLE)) {

@@ -2,9 +2,9 @@
 //! which they are stored.
 
 use crate::file_samples::class_of_name;
+use cm_commands::{Command, Names};
 use cm_disk::SimDisk;
 use cm_pool::Geometry;
-use cm_prepare::{Command, Names};
 use cm_recover::{NotOpened, format};
 use cm_session::{Session, open};
 use std::alloc::Global;

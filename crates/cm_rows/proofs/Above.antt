@@ -1,4 +1,4 @@
--- Numbers of commands are above those of all loaders that live.
+-- Numbers of commands are above those of all live loaders.
 -- On `sizes`, `rows`, `is_above`, for crates above.
 use Rattle.std.proofs.Common.{◌≡◌, ℕ, ◌+◌, ◌<◌, ◌≤◌, Bool, true, false, cond, List, [], ◌∷◌, ◌++◌}
 use Rattle.std.proofs.Common.{Some, None, refl, arith}
@@ -17,7 +17,7 @@ use Rattle.cm_layout.specs.Rows.{numbers_in, without_loader, without_loaders, mo
 use Rattle.cm_layout.specs.Rules.{broken_rule, broken_live_rule, is_new_loader}
 use Rattle.cm_rows.specs.Rows.{is_above}
 
--- each loader's number is below
+-- each loader's number is below n
 abbrev AreBelow : {P : Type 0} → ℕ → List (Row P) → Type 0
 AreBelow n [] = Unit {0}
 AreBelow n (Loader r ∷ rows) = (r.number < n) × AreBelow n rows

@@ -1,5 +1,5 @@
--- A loader's rows are gone over from one of them back, to find those on one chunk.
--- For `Book::last_kept`, `LastKept::next`, `newest_on`.
+-- Following a loader's rows backwards from one of them, to find those on one chunk.
+-- For `LiveRows::last_kept`, `LastKept::next`, `newest_on`.
 use Rattle.std.proofs.Common.{◌≡◌, ℕ, zero, suc, ◌+◌, ◌-◌, ◌≤◌, Bool, true, false, cond, List, []}
 use Rattle.std.proofs.Common.{◌∷◌, ◌++◌, length, take, drop, get_or, Option, Some, None, refl, sym}
 use Rattle.std.proofs.Common.{ap, subst, ◌∙◌, arith, eqb, inl, inr, take-append-drop, append-nil}
@@ -24,15 +24,15 @@ use Rattle.cm_index.proofs.{living-append, living-push}
 use Rattle.cm_rows.specs.declared.live_loader.LastChunk.{LastChunk}
 use Rattle.cm_rows.specs.Held.{AreFounded}
 use Rattle.cm_rows.specs.Links.{loader_in, place_behind, last_place, places_left, AreLinked}
-use Rattle.cm_rows.specs.Links.{is_on, AreOwnOn, rows_to, ComesBack, GoesBack}
+use Rattle.cm_rows.specs.Links.{is_on, AreOwnOn, rows_to, ComesBack, LinksBack}
 use Rattle.cm_rows.specs.Rows.{last_of}
 use Rattle.cm_rows.proofs.Changes.{last_of-is, use-chunk}
 use Rattle.cm_rows.proofs.Linking.{stands-last, of-is, get-take, place-less}
 use Rattle.cm_rows.proofs.Moving.{take-short, none-after}
 
--- ---- rows behind a loader's last one
+-- ---- rows after a loader's last one
 
--- as far as a chunk goes, these rows are all of those
+-- as far as this chunk is concerned, these rows are the same as `more`
 pub record SameOn {P : Type 0} (c : Chunk) (rows more : List (Row P)) : Type 0 where
   pub kept : kept_on c rows ≡ kept_on c more
   pub used : used_words c rows ≡ used_words c more
@@ -109,7 +109,7 @@ module _ {P : Type 0} where
         used = ap (used_words c) parted ∙ omega (arith, used-append c front back, fewer);
       }
 
-  -- up to the last place of the loader there are all
+  -- the rows up to the loader's last place are all there are on its chunk
   pub last-same : (u : ℕ) (c : Chunk) (slots : List (BookSlot (Row P))) → AreOwnOn u c slots
       → SameOn c (living slots) (rows_to (last_place u slots) slots)
   last-same u c slots own = by_place (last_place u slots) refl
@@ -119,7 +119,7 @@ module _ {P : Type 0} where
       by_place None is = front-same u c slots 0 own is
       by_place (Some i) is = front-same u c slots (suc i) own (none-after u slots i is)
 
-  -- and so it is in front of each place
+  -- the same holds before each place
   pub front-last : (u : ℕ) (c : Chunk) (slots : List (BookSlot (Row P))) (at : ℕ)
       → AreOwnOn u c slots
       → SameOn c (living (take at slots)) (rows_to (last_place u (take at slots)) slots)
@@ -146,7 +146,7 @@ module _ {P : Type 0} where
     pub rows : rows_to (Some i) slots ≡ living (take i slots) ++ row ∷ []
 
   pub next-row : (slots : List (BookSlot (Row P))) (before : List (Option ℕ)) (c : Chunk) (i : ℕ)
-      (used : ℕ) → (g : GoesBack slots before c (Some i) used) → Next g.loader slots i
+      (used : ℕ) → (g : LinksBack slots before c (Some i) used) → Next g.loader slots i
   next-row slots before c i used g =
       let at = stands-last g.loader (take g.behind slots) i (sym g.next_is) in
       let s = at.slot in
@@ -162,19 +162,19 @@ module _ {P : Type 0} where
       }
 
   pub before-less : (slots : List (BookSlot (Row P))) (before : List (Option ℕ)) (c : Chunk)
-      (i used : ℕ) → GoesBack slots before c (Some i) used → places_left (get_or before i None) ≤ i
+      (i used : ℕ) → LinksBack slots before c (Some i) used → places_left (get_or before i None) ≤ i
   before-less slots before c i used g =
       let n = next-row slots before c i used g in
       let link = g.linked.each i (record { item = n.row; live = true }) n.there refl in
       omega (arith, ap places_left link, place-less (loader_in n.row) slots i)
 
-  -- from a row of the loader's the walk goes back to the one before it
+  -- from a row of the loader the walk goes back to the one before it
   pub goes-before : (slots : List (BookSlot (Row P))) (before : List (Option ℕ)) (c : Chunk)
       (next : Option ℕ) (used i words : ℕ) (row : Row P)
-      → (g : GoesBack slots before c next used)
+      → (g : LinksBack slots before c next used)
       → slice_get slots i ≡ Some (record { item = row; live = true }) → is_of g.loader row ≡ true
       → used ≡ used_words c (living (take i slots)) + words
-      → GoesBack slots before c (get_or before i None) (used - words)
+      → LinksBack slots before c (get_or before i None) (used - words)
       × (kept_on c (living (take i slots)) ≡ kept_on c (rows_to (get_or before i None) slots))
   goes-before slots before c next used i words row g there own is =
       let u = g.loader in
@@ -196,11 +196,11 @@ module _ {P : Type 0} where
         same.kept,
       )
 
-  -- a row that isn't on the chunk is passed over
+  -- a row that isn't on the chunk is skipped
   pub passes : (slots : List (BookSlot (Row P))) (before : List (Option ℕ)) (c : Chunk) (i used : ℕ)
-      → (g : GoesBack slots before c (Some i) used)
+      → (g : LinksBack slots before c (Some i) used)
       → is_on c (next-row slots before c i used g).row ≡ false
-      → GoesBack slots before c (get_or before i None) used
+      → LinksBack slots before c (get_or before i None) used
       × (kept_on c (rows_to (Some i) slots) ≡ kept_on c (rows_to (get_or before i None) slots))
   passes slots before c i used g off =
       let n = next-row slots before c i used g in
@@ -211,7 +211,7 @@ module _ {P : Type 0} where
       ∙ omega (arith, used-append c front (n.row ∷ []), one.1) in
       let behind = goes-before slots before c (Some i) used i 0 n.row g n.there n.own words in
       let same : used - 0 ≡ used = omega arith in (
-        subst (λ (k : ℕ). GoesBack slots before c (get_or before i None) k) same behind.0,
+        subst (λ (k : ℕ). LinksBack slots before c (get_or before i None) k) same behind.0,
         ap (kept_on c) n.rows ∙ kept-append c front (n.row ∷ [])
             ∙ ap (λ (l : List P). kept_on c front ++ l) one.0
             ∙ append-nil (kept_on c front) ∙ behind.1,
@@ -222,9 +222,9 @@ module _ {P : Type 0} where
       by_row (Loader r) e = (refl, refl)
       by_row (Class r p) e = (rw e refl, rw e refl)
 
-  -- one on the chunk is found
+  -- a row on the chunk is found
   pub comes-back : (slots : List (BookSlot (Row P))) (before : List (Option ℕ)) (c : Chunk)
-      (i used : ℕ) → (g : GoesBack slots before c (Some i) used)
+      (i used : ℕ) → (g : LinksBack slots before c (Some i) used)
       → is_on c (next-row slots before c i used g).row ≡ true → ComesBack c slots (Some i) i
   comes-back slots before c i used g on =
       let n = next-row slots before c i used g in
@@ -250,7 +250,7 @@ module _ {P : Type 0} where
                 ∙ omega (arith, used-append c front (Class r p ∷ []), words);
           }
 
-  -- seen from further back it is the same one
+  -- the same row is found from further on
   pub comes-from : (c : Chunk) (slots : List (BookSlot (Row P))) (from next : Option ℕ) (i : ℕ)
       → kept_on c (rows_to from slots) ≡ kept_on c (rows_to next slots)
       → used_words c (rows_to from slots) ≡ used_words c (rows_to next slots)
@@ -289,9 +289,9 @@ module _ {P : Type 0} where
           let one : used_words c (Class r p ∷ []) ≡ 0 = rw e refl in
           rest (omega (arith, used-append c (Class r p ∷ []) rows, one, none))
 
-  -- where no words are in use any more, nothing is left
+  -- if no words are in use any more, nothing is left
   pub nothing-left : (slots : List (BookSlot (Row P))) (before : List (Option ℕ)) (c : Chunk)
-      (next : Option ℕ) (used : ℕ) → GoesBack slots before c next used → used ≡ 0
+      (next : Option ℕ) (used : ℕ) → LinksBack slots before c next used → used ≡ 0
       → kept_on c (rows_to next slots) ≡ []
   nothing-left slots before c next used g none =
       none-kept_on c (rows_to next slots)
@@ -303,9 +303,9 @@ module _ {P : Type 0} where
 
   -- once the row that was found is taken
   pub taken : (slots : List (BookSlot (Row P))) (before : List (Option ℕ)) (c : Chunk)
-      (next : Option ℕ) (used i : ℕ) → GoesBack slots before c next used
+      (next : Option ℕ) (used i : ℕ) → LinksBack slots before c next used
       → (b : ComesBack c slots next i)
-      → GoesBack slots before c (get_or before i None) (used - b.row.place.words)
+      → LinksBack slots before c (get_or before i None) (used - b.row.place.words)
       × (kept_on c (rows_to next slots)
       ≡ kept_on c (rows_to (get_or before i None) slots) ++ b.kept ∷ [])
   taken slots before c next used i g b =
@@ -333,7 +333,7 @@ module _ {P : Type 0} where
           (among-right r (classes_in (living (take k ss))) (r ∷ []) (inl refl)))))
 
 module _ {P : Type 0} where
-  -- what stands at the place that was found is its class
+  -- the row at the place that was found is of its class
   pub found-row : (slots : List (BookSlot (Row P))) (c : Chunk) (from : Option ℕ) (i : ℕ)
       (b : ComesBack c slots from i) (d : BookSlot (Row P)) (r : ClassRow) (p : P)
       → (get_or slots i d).item ≡ Class r p → (b.row ≡ r) × (b.kept ≡ p)
@@ -349,7 +349,7 @@ module _ {P : Type 0} where
       (l : LastChunk) (newest : Option ℕ) → AreLinked slots before
       → AreFounded (classes_in (living slots)) → newest ≡ last_place u slots
       → last_of u (living slots) ≡ Some l
-      → GoesBack slots before l.chunk newest l.used
+      → LinksBack slots before l.chunk newest l.used
       × (kept_on l.chunk (living slots) ≡ kept_on l.chunk (rows_to newest slots))
   newest-goes slots before u l newest linked founded is last =
       let rows = living slots in

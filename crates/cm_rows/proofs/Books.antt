@@ -1,5 +1,6 @@
--- A book stays one: with a loader more, a class more, without a loader, and with a chunk moved.
--- For `Book+unit::copy_from`, `Book::add_loader`, `Book::define` and others.
+-- Live rows keep their invariant: with one more loader, with one more class, without a loader, and
+-- with a chunk moved.
+-- For `LiveRows+unit::copy_from`, `LiveRows::add_loader`, `LiveRows::define` and others.
 use Rattle.std.proofs.Common.{◌≡◌, ◌≢◌, ℕ, ◌+◌, ◌<◌, ◌≤◌, ◌⊎◌, Bool, true, false, cond, eqb, List}
 use Rattle.std.proofs.Common.{[], ◌∷◌, ◌++◌, length, get_or, set, Option, Some, None, inl, inr, sym}
 use Rattle.std.proofs.Common.{◌∙◌, ap, subst, arith, append-nil}
@@ -16,7 +17,7 @@ use Rattle.cm_pool.proofs.{meets-itself, among-left, among-push, among-map_from,
 use Rattle.cm_pool.proofs.{among-filter_from}
 use Rattle.cm_layout.specs.declared.class_row.ClassRow.{ClassRow}
 use Rattle.cm_layout.specs.declared.loader_row.LoaderRow.{LoaderRow}
-use Rattle.cm_layout.specs.declared.relocation.Move.{Move}
+use Rattle.cm_layout.specs.declared.move_entry.Move.{Move}
 use Rattle.cm_layout.specs.declared.row.Row.{Row}
 use Rattle.cm_layout.specs.declared.row.Row.TheVariants.{Loader, Class}
 use Rattle.cm_layout.specs.Names.{slots_of_name}
@@ -27,9 +28,9 @@ use Rattle.cm_layout.proofs.{slots-without, slots-moved, slots-bare}
 use Rattle.cm_rows.specs.declared.live_loader.LastChunk.{LastChunk}
 use Rattle.cm_rows.specs.declared.live_loader.LiveLoader.{LiveLoader}
 use Rattle.cm_rows.specs.Rows.{last_of, is_above}
-use Rattle.cm_rows.specs.Loaders.{IsAt}
-use Rattle.cm_rows.specs.Held.{Holds, first_chunks, AreFounded, TakesPlace, HasNoPlace}
-use Rattle.cm_rows.specs.Book.{AreLoadersOf, AreLiveRows, IsBook}
+use Rattle.cm_rows.specs.Loaders.{LoaderIsAt}
+use Rattle.cm_rows.specs.Held.{PoolHolds, first_chunks, AreFounded, TakesPlace, HasNoPlace}
+use Rattle.cm_rows.specs.LiveRows.{AreLoadersOf, AreLiveRows, AreRowsInPlace}
 use Rattle.cm_rows.proofs.Classes.{used, used-some, moved_class, is_moved, first-push, first-moved}
 use Rattle.cm_rows.proofs.Loaders.{last_in-set, last_in-remove, last_in-push, numbers-set}
 use Rattle.cm_rows.proofs.Loaders.{rises-set, numbers-remove, rises-remove, numbers-push}
@@ -48,7 +49,7 @@ use Rattle.cm_rows.proofs.Changes.{founded-without, last_use-moved, founded-move
 abbrev pub used_to_end : ClassRow → LastChunk
 used_to_end r = record { chunk = r.place.chunk; used = r.place.offset + r.place.words }
 
--- the loaders with another last chunk of the one at this place
+-- the loaders, if the one at this place has another last chunk
 abbrev pub with_last : List LiveLoader → ℕ → ℕ → LastChunk → List LiveLoader
 with_last ls i u l = set ls i (record { number = u; last = Some l })
 
@@ -56,7 +57,7 @@ with_last ls i u l = set ls i (record { number = u; last = Some l })
 
 module _ {P : Type 0} where
   loaders-set : (rows more : List (Row P)) (ls : List LiveLoader) (u i : ℕ) (o : Option LastChunk)
-      → AreLoadersOf rows ls → IsAt ls u i → numbers_in more ≡ numbers_in rows
+      → AreLoadersOf rows ls → LoaderIsAt ls u i → numbers_in more ≡ numbers_in rows
       → ((v : ℕ) → last_of v more ≡ cond (eqb u v) o (last_of v rows))
       → AreLoadersOf more (set ls i (record { number = u; last = o }))
   loaders-set rows more ls u i o h at numbers last =
@@ -69,7 +70,7 @@ module _ {P : Type 0} where
             ∙ ap (cond (eqb u v) o) (h.last v) ∙ sym (last v);
       }
 
-  -- no record lies on a free chunk
+  -- no record is on a free chunk
   nowhere : (sizes : Sizes) (rows : List (Row P)) (p : FreeSpace) (c : Chunk)
       → AreLiveRows sizes rows p → IsFreeChunk p c → (s : ClassRow) → Among s (classes_in rows)
       → s.place.chunk ≢ c
@@ -78,15 +79,16 @@ module _ {P : Type 0} where
       apart s.place.chunk (live.founded.first s m) (subst
       (λ (d : Chunk). Meets c d) (sym e) (meets-itself c))
 
--- ---- a class more
+-- ---- one more class
 
 module _ {P : Type 0} where
-  -- beside what every class more does
+  -- what every additional class does
   pushed : (sizes : Sizes) (rows : List (Row P)) (ls : List LiveLoader) (p q : FreeSpace)
       (r : ClassRow) (k : P) (i : ℕ)
-      → IsBook sizes rows ls p → slots_of_rows rows < row_limit sizes → IsAt ls r.loader i
-      → Joins (classes_in rows) r → Holds sizes q (first_chunks (classes_in rows ++ r ∷ []))
-      → IsBook sizes (rows ++ Class r k ∷ []) (with_last ls i r.loader (used_to_end r)) q
+      → AreRowsInPlace sizes rows ls p → slots_of_rows rows < row_limit sizes
+      → LoaderIsAt ls r.loader i
+      → Joins (classes_in rows) r → PoolHolds sizes q (first_chunks (classes_in rows ++ r ∷ []))
+      → AreRowsInPlace sizes (rows ++ Class r k ∷ []) (with_last ls i r.loader (used_to_end r)) q
   pushed sizes rows ls p q r k i h few at joins holds =
       let classes = classes-push_class rows r k in
       let numbers = numbers-push_class rows r k in
@@ -99,7 +101,8 @@ module _ {P : Type 0} where
             ∙ last_use-push (classes_in rows) r v joins
             ∙ ap (cond (eqb r.loader v) o) (sym (last_of-is v rows)));
         live = record {
-          holds = subst (λ (rs : List ClassRow). Holds sizes q (first_chunks rs)) (sym classes)
+          holds = subst (λ (rs : List ClassRow). PoolHolds sizes q (first_chunks rs))
+              (sym classes)
               holds;
           founded = subst AreFounded (sym classes) (founded-push (classes_in rows) r h.live.founded
               joins);
@@ -120,13 +123,14 @@ module _ {P : Type 0} where
           (λ (x : ClassRow). x.loader) (sym e)) (subst
           (λ (ns : List ℕ). Among r.loader ns) h.loaders.numbers there)
 
-  -- behind the last record in its loader's last chunk
+  -- a class after the last record in its loader's last chunk
   pub define-top : (sizes : Sizes) (rows : List (Row P)) (ls : List LiveLoader) (p : FreeSpace)
       (r : ClassRow) (k : P) (i : ℕ)
-      → IsBook sizes rows ls p → slots_of_rows rows < row_limit sizes → IsAt ls r.loader i
+      → AreRowsInPlace sizes rows ls p → slots_of_rows rows < row_limit sizes
+      → LoaderIsAt ls r.loader i
       → 1 ≤ r.place.words
       → last_of r.loader rows ≡ Some (record { chunk = r.place.chunk; used = r.place.offset })
-      → IsBook sizes (rows ++ Class r k ∷ []) (with_last ls i r.loader (used_to_end r)) p
+      → AreRowsInPlace sizes (rows ++ Class r k ∷ []) (with_last ls i r.loader (used_to_end r)) p
   define-top sizes rows ls p r k i h few at some last =
       let on_top = sym (last_of-is r.loader rows) ∙ last in
       let joins = joins-top (classes_in rows) r h.live.founded some on_top in
@@ -141,14 +145,15 @@ module _ {P : Type 0} where
       (ne-eqb r.place.offset 0 (λ e. omega (arith, joins.offset, behind)))
       ∙ append-nil (first_chunks (classes_in rows)) in
       pushed sizes rows ls p p r k i h few at joins (subst
-      (λ (cs : List Chunk). Holds sizes p cs) (sym same) h.live.holds)
+      (λ (cs : List Chunk). PoolHolds sizes p cs) (sym same) h.live.holds)
 
-  -- first in a chunk that was free
+  -- a class that is first in a chunk that was free
   pub define-new : (sizes : Sizes) (rows : List (Row P)) (ls : List LiveLoader) (p : FreeSpace)
       (r : ClassRow) (k : P) (i : ℕ)
-      → IsBook sizes rows ls p → slots_of_rows rows < row_limit sizes → IsAt ls r.loader i
+      → AreRowsInPlace sizes rows ls p → slots_of_rows rows < row_limit sizes
+      → LoaderIsAt ls r.loader i
       → 1 ≤ r.place.words → r.place.offset ≡ 0 → IsFreeChunk p r.place.chunk
-      → IsBook sizes (rows ++ Class r k ∷ []) (with_last ls i r.loader (used_to_end r))
+      → AreRowsInPlace sizes (rows ++ Class r k ∷ []) (with_last ls i r.loader (used_to_end r))
       (without p r.place.chunk)
   define-new sizes rows ls p r k i h few at some zero free =
       let joins = joins-new (classes_in rows) r some zero
@@ -159,17 +164,17 @@ module _ {P : Type 0} where
       (λ (t : Bool). first_chunks (classes_in rows) ++ cond t (r.place.chunk ∷ []) [])
       (eq-eqb r.place.offset 0 zero) in
       pushed sizes rows ls p (without p r.place.chunk) r k i h few at joins
-      (subst (λ (cs : List Chunk). Holds sizes (without p r.place.chunk) cs) (sym same)
+      (subst (λ (cs : List Chunk). PoolHolds sizes (without p r.place.chunk) cs) (sym same)
       (take-push sizes p (first_chunks (classes_in rows)) r.place.chunk h.live.holds free))
 
--- ---- a loader more
+-- ---- one more loader
 
 module _ {P : Type 0} where
   pub add-loader : (sizes : Sizes) (rows : List (Row P)) (ls : List LiveLoader) (p : FreeSpace)
       (r : LoaderRow)
-      → IsBook sizes rows ls p → slots_of_rows rows + slots_of_name r.name ≤ row_limit sizes
+      → AreRowsInPlace sizes rows ls p → slots_of_rows rows + slots_of_name r.name ≤ row_limit sizes
       → is_above r.number rows ≡ true
-      → IsBook sizes (rows ++ Loader r ∷ [])
+      → AreRowsInPlace sizes (rows ++ Loader r ∷ [])
       (ls ++ record { number = r.number; last = None } ∷ []) p
   add-loader sizes rows ls p r h few above =
       let classes = classes-push_loader rows r in
@@ -189,7 +194,8 @@ module _ {P : Type 0} where
         };
         live = record {
           holds = subst
-              (λ (rs : List ClassRow). Holds sizes p (first_chunks rs)) (sym classes) h.live.holds;
+              (λ (rs : List ClassRow). PoolHolds sizes p (first_chunks rs)) (sym classes)
+              h.live.holds;
           founded = subst AreFounded (sym classes) h.live.founded;
           owned = λ s m.
               subst (λ (ns : List ℕ). Among s.loader ns) (sym numbers)
@@ -203,9 +209,9 @@ module _ {P : Type 0} where
 module _ {P : Type 0} where
   pub unload : (sizes : Sizes) (rows : List (Row P)) (ls : List LiveLoader) (p q : FreeSpace)
       (u i : ℕ)
-      → IsBook sizes rows ls p → IsAt ls u i
-      → Holds sizes q (first_chunks (classes_in (without_loader u rows)))
-      → IsBook sizes (without_loader u rows) (remove ls i) q
+      → AreRowsInPlace sizes rows ls p → LoaderIsAt ls u i
+      → PoolHolds sizes q (first_chunks (classes_in (without_loader u rows)))
+      → AreRowsInPlace sizes (without_loader u rows) (remove ls i) q
   unload sizes rows ls p q u i h at holds =
       let d : LiveLoader = record { number = 0; last = None } in
       let is = at.number_is d in
@@ -241,14 +247,14 @@ module _ {P : Type 0} where
 -- ---- a chunk moved
 
 module _ {P : Type 0} where
-  pub relocate : (sizes : Sizes) (rows : List (Row P)) (ls : List LiveLoader) (p : FreeSpace)
+  pub apply_move : (sizes : Sizes) (rows : List (Row P)) (ls : List LiveLoader) (p : FreeSpace)
       (u i used_words : ℕ) (from to : Chunk)
-      → IsBook sizes rows ls p → IsAt ls u i
+      → AreRowsInPlace sizes rows ls p → LoaderIsAt ls u i
       → last_of u rows ≡ Some (record { chunk = from; used = used_words }) → IsFreeChunk p to
       → IsUsedChunk (without p to) from
-      × IsBook sizes (moved from to rows) (with_last ls i u
+      × AreRowsInPlace sizes (moved from to rows) (with_last ls i u
       (record { chunk = to; used = used_words })) (with_chunk (without p to) from)
-  relocate sizes rows ls p u i used_words from to h at last free =
+  apply_move sizes rows ls p u i used_words from to h at last free =
       let k = classes_in rows in
       let is = use-chunk u k (record { chunk = from; used = used_words }) (sym (last_of-is u rows)
       ∙ last) in
@@ -271,7 +277,7 @@ module _ {P : Type 0} where
               (last_use v k)) is.1 ∙ ap (cond (eqb u v) o) (sym (last_of-is v rows)));
           live = record {
             holds = subst
-                (λ (cs : List Chunk). Holds sizes (with_chunk (without p to) from) cs)
+                (λ (cs : List Chunk). PoolHolds sizes (with_chunk (without p to) from) cs)
                 (sym (ap first_chunks classes ∙ first-moved from to k)) swapped.1;
             founded = subst AreFounded (sym classes) (founded-moved from to k h.live.founded
                 unused);
@@ -291,22 +297,23 @@ module _ {P : Type 0} where
 module _ {P : Type 0} where
   pub defined : (sizes : Sizes) (rows : List (Row P)) (ls : List LiveLoader) (p q : FreeSpace)
       (r : ClassRow) (k : P) (i : ℕ) (l : LiveLoader)
-      → IsBook sizes rows ls p → slots_of_rows rows < row_limit sizes → IsAt ls r.loader i
+      → AreRowsInPlace sizes rows ls p → slots_of_rows rows < row_limit sizes
+      → LoaderIsAt ls r.loader i
       → l ≡ get_or ls i l → 1 ≤ r.place.words → TakesPlace l.last r.place p q
-      → IsBook sizes (rows ++ Class r k ∷ []) (with_last ls i r.loader (used_to_end r)) q
+      → AreRowsInPlace sizes (rows ++ Class r k ∷ []) (with_last ls i r.loader (used_to_end r)) q
   defined sizes rows ls p q r k i l h few at is some (inl (top, same)) =
       let new = with_last ls i r.loader (used_to_end r) in
-      subst (λ (x : FreeSpace). IsBook sizes (rows ++ Class r k ∷ []) new x) (sym same)
+      subst (λ (x : FreeSpace). AreRowsInPlace sizes (rows ++ Class r k ∷ []) new x) (sym same)
       (define-top sizes rows ls p r k i h few at some (last-at rows ls r.loader i l h.loaders at is
       ∙ top.is_top))
   defined sizes rows ls p q r k i l h few at is some (inr (front, same)) =
       let new = with_last ls i r.loader (used_to_end r) in
-      subst (λ (x : FreeSpace). IsBook sizes (rows ++ Class r k ∷ []) new x) (sym same)
+      subst (λ (x : FreeSpace). AreRowsInPlace sizes (rows ++ Class r k ∷ []) new x) (sym same)
       (define-new sizes rows ls p r k i h few at some front.front front.free)
 
   pub placed : (sizes : Sizes) (rows : List (Row P)) (ls : List LiveLoader) (p q : FreeSpace)
       (r : ClassRow) (i : ℕ) (l : LiveLoader)
-      → IsBook sizes rows ls p → IsAt ls r.loader i → l ≡ get_or ls i l
+      → AreRowsInPlace sizes rows ls p → LoaderIsAt ls r.loader i → l ≡ get_or ls i l
       → TakesPlace l.last r.place p q → has_place rows r ≡ true
   placed sizes rows ls p q r i l h at is (inl (top, same)) =
       place-top rows r (last-at rows ls r.loader i l h.loaders at is ∙ top.is_top)
@@ -315,7 +322,7 @@ module _ {P : Type 0} where
 
   pub unplaced : (sizes : Sizes) (rows : List (Row P)) (ls : List LiveLoader) (p q : FreeSpace)
       (r : ClassRow) (i : ℕ) (l : LiveLoader)
-      → IsBook sizes rows ls p → IsAt ls r.loader i → l ≡ get_or ls i l
+      → AreRowsInPlace sizes rows ls p → LoaderIsAt ls r.loader i → l ≡ get_or ls i l
       → is_chunk sizes r.place.chunk ≡ true → HasNoPlace l.last r.place p q
       → has_place rows r ≡ false
   unplaced sizes rows ls p q r i l h at is chunk none =
@@ -328,10 +335,11 @@ module _ {P : Type 0} where
 
   pub relocated : (sizes : Sizes) (rows : List (Row P)) (ls : List LiveLoader) (p : FreeSpace)
       (e : Move) (i : ℕ) (m : LiveLoader) (l : LastChunk)
-      → IsBook sizes rows ls p → IsAt ls e.loader i → m ≡ get_or ls i m → m.last ≡ Some l
+      → AreRowsInPlace sizes rows ls p → LoaderIsAt ls e.loader i → m ≡ get_or ls i m → m.last
+      ≡ Some l
       → has_room_for sizes l e ≡ true → IsFreeChunk p e.to
       → IsUsedChunk (without p e.to) e.from
-      × IsBook sizes (moved e.from e.to rows) (with_last ls i e.loader
+      × AreRowsInPlace sizes (moved e.from e.to rows) (with_last ls i e.loader
       (record { chunk = e.to; used = l.used })) (with_chunk (without p e.to) e.from)
   relocated sizes rows ls p e i m l h at is last room free =
       let same : last_of e.loader rows ≡ Some l = last-at rows ls e.loader i m h.loaders at is
@@ -339,15 +347,15 @@ module _ {P : Type 0} where
       let from : last_of e.loader rows ≡ Some (record { chunk = e.from; used = l.used }) =
       same ∙ ap (λ (c : Chunk). Some (record { chunk = c; used = l.used }))
       (room-from sizes l e room) in
-      relocate sizes rows ls p e.loader i l.used e.from e.to h at from free
+      apply_move sizes rows ls p e.loader i l.used e.from e.to h at from free
 
--- ---- another's rows
+-- ---- the rows of another value
 
 module _ {P : Type 0} where
-  -- with nothing kept of a class
+  -- rows with nothing kept of a class
   pub bared : (sizes : Sizes) (rows : List (Row P)) (ls : List LiveLoader) (p q : FreeSpace)
-      → IsBook sizes rows ls p
-      → Holds sizes q (first_chunks (classes_in rows)) → IsBook sizes (bare rows) ls q
+      → AreRowsInPlace sizes rows ls p
+      → PoolHolds sizes q (first_chunks (classes_in rows)) → AreRowsInPlace sizes (bare rows) ls q
   bared sizes rows ls p q h holds =
       let classes = classes-bare rows in
       let numbers = numbers-bare rows in
@@ -361,7 +369,8 @@ module _ {P : Type 0} where
               ∙ sym (last_of-is u (bare rows));
         };
         live = record {
-          holds = subst (λ (rs : List ClassRow). Holds sizes q (first_chunks rs)) (sym classes)
+          holds = subst (λ (rs : List ClassRow). PoolHolds sizes q (first_chunks rs))
+              (sym classes)
               holds;
           founded = subst AreFounded (sym classes) h.live.founded;
           owned = λ s m.
@@ -371,7 +380,7 @@ module _ {P : Type 0} where
       }
 
   pub loaders-at_most : (sizes : Sizes) (rows : List (Row P)) (ls : List LiveLoader) (p : FreeSpace)
-      → IsBook sizes rows ls p → length ls ≤ row_limit sizes
+      → AreRowsInPlace sizes rows ls p → length ls ≤ row_limit sizes
   loaders-at_most sizes rows ls p h =
       omega (
         arith,

@@ -1,5 +1,5 @@
--- What one class more, an unloaded loader and a moved chunk do to the rows of classes.
--- For `Book::relocate`.
+-- What one more class, an unloaded loader and a moved chunk do to the rows of classes.
+-- For `LiveRows::apply_move`.
 use Rattle.std.proofs.Common.{◌≡◌, ◌≢◌, ℕ, ◌+◌, ◌≤◌, ◌⊎◌, Bool, true, false, cond, eqb, List, []}
 use Rattle.std.proofs.Common.{◌∷◌, ◌++◌, map, Option, Some, None, inl, inr, refl, sym, ◌∙◌, ap}
 use Rattle.std.proofs.Common.{subst, arith}
@@ -64,9 +64,9 @@ ne-eqb a b n = by_test (eqb a b) refl
     by_test true e = absurd (n (eqb-true a b e))
     by_test false e = refl
 
--- ---- one class more
+-- ---- one more class
 
--- a class that can stand behind others
+-- a class that may follow others
 pub record Joins (rs : List ClassRow) (r : ClassRow) : Type 0 where
   pub words : 1 ≤ r.place.words
   pub first : Among r.place.chunk (first_chunks (rs ++ r ∷ []))
@@ -139,7 +139,7 @@ last_use-push rs r v j =
     by_test true e = ap (λ n. Some (record { chunk = r.place.chunk; used = n })) here
     by_test false e = others (last_chunk v rs) refl e
 
--- behind the last record in its loader's last chunk
+-- a class after the last record in its loader's last chunk
 pub joins-top : (rs : List ClassRow) (r : ClassRow) → AreFounded rs → 1 ≤ r.place.words
     → last_use r.loader rs ≡ Some (record { chunk = r.place.chunk; used = r.place.offset })
     → Joins rs r
@@ -156,7 +156,7 @@ joins-top rs r h some last =
       offset = is.1;
     }
 
--- first in a chunk where no record is
+-- a class that is first in a chunk without records
 pub joins-new : (rs : List ClassRow) (r : ClassRow) → 1 ≤ r.place.words → r.place.offset ≡ 0
     → ((s : ClassRow) → Among s rs → s.place.chunk ≢ r.place.chunk) → Joins rs r
 joins-new rs r some zero unused =

@@ -1,5 +1,5 @@
--- What the place of a class says of the rules on its row.
--- For `Book::define`.
+-- What the place of a class says about the rules on its row.
+-- For `LiveRows::define`.
 use Rattle.std.proofs.Common.{◌≡◌, ◌⊎◌, ℕ, Bool, true, false, List, Some, None, inl, inr}
 use Rattle.std.proofs.Common.{arith}
 use Rattle.cm_pool.specs.Geometry.{Sizes}
@@ -14,10 +14,10 @@ use Rattle.cm_layout.specs.Rules.{broken_live_rule, class_fits, has_place, has_r
 use Rattle.cm_index.specs.declared.slot.BookSlot.{BookSlot}
 use Rattle.cm_index.specs.Living.{living}
 use Rattle.cm_rows.specs.declared.live_loader.LiveLoader.{LiveLoader}
-use Rattle.cm_rows.specs.Book.{IsBook}
+use Rattle.cm_rows.specs.LiveRows.{AreRowsInPlace}
 use Rattle.cm_rows.specs.Held.{HasNoPlace}
-use Rattle.cm_rows.specs.Loaders.{IsAt}
-use Rattle.cm_rows.specs.Placing.{is_inside, MayCome, IsPlaced, Breaks}
+use Rattle.cm_rows.specs.Loaders.{LoaderIsAt}
+use Rattle.cm_rows.specs.Placing.{is_inside, MayCome, IsPlaced, Breaches}
 use Rattle.cm_rows.proofs.Books.{placed, unplaced}
 use Rattle.cm_rows.proofs.KeptPlaces.{StandsAmong, at-living, same-kept, stands}
 use Rattle.cm_rows.proofs.Verdicts.{inside-chunk, live-at, no_room-is, not_live, on_chunks-inside}
@@ -26,7 +26,7 @@ use Rattle.cm_rows.proofs.Verdicts.{on_chunks-place, on_none, on_rows-live, on_r
 module _ {P : Type 0} (sizes : Sizes) (rows : List (Row P))
     (loaders : List (BookSlot LiveLoader)) (old new : FreeSpace) (r : ClassRow)
     (kept : P) (taken : ℕ) (counted : taken ≡ slots_of_rows rows)
-    (book : IsBook sizes rows (living loaders) old) where
+    (book : AreRowsInPlace sizes rows (living loaders) old) where
   abbrev live : Bool
   live = is_live r.loader rows
 
@@ -37,7 +37,7 @@ module _ {P : Type 0} (sizes : Sizes) (rows : List (Row P))
     pub among : StandsAmong loaders at
     among = stands loaders r.loader at may.kept
 
-    pub found : IsAt (living loaders) r.loader among.place
+    pub found : LoaderIsAt (living loaders) r.loader among.place
     found = at-living loaders r.loader at may.kept among
 
     lives : live ≡ true
@@ -46,8 +46,8 @@ module _ {P : Type 0} (sizes : Sizes) (rows : List (Row P))
     roomy : room ≡ true
     roomy = room-is sizes rows r kept (omega (arith, may.few, counted))
 
-  -- the rule that the row breaks
-  pub broken : (rule : EntryRule) → Breaks sizes taken loaders r old new rule
+  -- the rule that the row breaks is the one returned
+  pub broken : (rule : EntryRule) → Breaches sizes taken loaders r old new rule
       → Some rule ≡ broken_live_rule sizes 0 rows (Class r kept)
   broken OnRows (inl absent) =
       on_rows-live live room (class_fits sizes rows r)
@@ -71,7 +71,7 @@ module _ {P : Type 0} (sizes : Sizes) (rows : List (Row P))
           (same-kept loaders u.at (among u.at u.slot u.may) u.slot u.may.slot_is)
           (inside-chunk sizes r inside).0 none)
 
-  -- it breaks none
+  -- the row breaks no rule
   pub keeps_all : IsPlaced sizes taken loaders r old new
       → None ≡ broken_live_rule sizes 0 rows (Class r kept)
   keeps_all p =

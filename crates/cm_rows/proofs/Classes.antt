@@ -1,6 +1,6 @@
 -- Rows of classes: what joining, leaving out and moving does to a loader's last chunk and to used
 -- words.
--- For `Book+unit::copy_from`, `Book::add_loader`, `Book::clear` and others.
+-- For `LiveRows+unit::copy_from`, `LiveRows::add_loader`, `LiveRows::clear` and others.
 use Rattle.std.proofs.Common.{◌≡◌, ◌≢◌, ℕ, ◌+◌, ◌≤◌, Bool, true, false, cond, eqb, List, [], ◌∷◌}
 use Rattle.std.proofs.Common.{◌++◌, map, Option, Some, None, inl, inr, refl, sym, ◌∙◌, ap, arith}
 use Rattle.std.specs.Prelude.{filter, sum}
@@ -18,7 +18,7 @@ use Rattle.cm_rows.specs.Held.{first_chunks}
 use Rattle.cm_layout.specs.declared.row.Row.{Row}
 use Rattle.cm_layout.proofs.{last_chunk-among}
 
--- ---- the words used of a chunk, by recursion
+-- ---- the used words of a chunk, by recursion
 
 abbrev pub used : Chunk → List ClassRow → ℕ
 used c [] = 0
@@ -59,7 +59,7 @@ used-append c (r ∷ rs) ss = by_test (used-append c rs ss) (same_chunk r.place.
     by_test behind true = omega (arith, behind)
     by_test behind false = behind
 
--- no record lies on the chunk
+-- no record is on the chunk
 pub used-none : (c : Chunk) (rs : List ClassRow) → ((r : ClassRow) → Among r rs
     → r.place.chunk ≢ c) → used c rs ≡ 0
 used-none c [] h = refl
@@ -102,7 +102,7 @@ used-filter c p (r ∷ rs) h =
 
 -- ---- a loader's last chunk
 
--- as the last case of the definition is
+-- like the last case of the definition
 or_own : ℕ → ClassRow → Option Chunk → Option Chunk
 or_own u r o = elim o [ Some c ↦ Some c | None ↦ cond (eqb r.loader u) (Some r.place.chunk) None ]
 
@@ -118,7 +118,7 @@ last-push u (s ∷ rs) r = ap (or_own u s) (last-push u rs r) ∙ by_test (eqb r
     by_test true = refl
     by_test false = refl
 
--- a loader with no class has none
+-- a loader with no class has no last chunk
 pub last-none : (u : ℕ) (rs : List ClassRow) → ((r : ClassRow) → Among r rs → r.loader ≢ u)
     → last_chunk u rs ≡ None
 last-none u rs h = by_last (last_chunk u rs) refl
@@ -127,7 +127,7 @@ last-none u rs h = by_last (last_chunk u rs) refl
     by_last None e = refl
     by_last (Some c) e = let s = last_chunk-among u rs c e in absurd (h s.0 s.1 s.2)
 
--- where all of a loader's classes stay
+-- if all of a loader's classes stay, so does its last chunk
 pub last-filter : (u : ℕ) (p : ClassRow → Bool) (rs : List ClassRow) → ((r : ClassRow)
     → Among r rs → r.loader ≡ u → p r ≡ true) → last_chunk u (filter p rs) ≡ last_chunk u rs
 unfolding or_own
@@ -149,7 +149,7 @@ last-filter u p (r ∷ rs) h = by_test (last-filter u p rs (λ s m. h s (inr m))
 
 -- ---- a move
 
--- where a chunk's records lie then
+-- where a chunk's records are after a move
 abbrev pub goes : Chunk → Chunk → Chunk → Chunk
 goes from to c = cond (same_chunk c from) to c
 
@@ -157,7 +157,7 @@ abbrev pub moved_class : Chunk → Chunk → ClassRow → ClassRow
 moved_class from to r =
     cond (same_chunk r.place.chunk from) (record r { place = record r.place { chunk = to } }) r
 
--- what a moved class keeps, and where it lies
+-- what a moved class keeps, and where it is
 pub record IsMoved (from to : Chunk) (r x : ClassRow) : Type 0 where
   pub loader : x.loader ≡ r.loader
   pub offset : x.place.offset ≡ r.place.offset
@@ -216,7 +216,7 @@ used-elsewhere c from to (r ∷ rs) nf nt =
         ≡ cond (same_chunk r.place.chunk c) (r.place.words + used c rs) (used c rs)
     step behind m w e = rw (w, e, same_test, behind) refl
 
--- all the words on the old chunk are on the new one, where no record was
+-- all the words on the old chunk are on the new one, if that had no record
 pub used-moved : (from to : Chunk) (rs : List ClassRow) → ((r : ClassRow) → Among r rs
     → r.place.chunk ≢ to) → used to (map (moved_class from to) rs) ≡ used from rs
 used-moved from to [] h = refl

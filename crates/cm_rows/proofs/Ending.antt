@@ -1,4 +1,4 @@
--- A living row ends, and its chunk is given back where it is the first record there.
+-- A live row ends, and its chunk is given back if the row's record is the first there.
 -- For `end_row`, `unload_rows`.
 use Rattle.std.proofs.Common.{◌≡◌, ℕ, zero, suc, ◌+◌, ◌<◌, Bool, true, false, cond, List, [], ◌∷◌}
 use Rattle.std.proofs.Common.{◌++◌}
@@ -13,12 +13,12 @@ use Rattle.cm_layout.specs.Rows.{classes_in, slots_of_row, slots_of_rows}
 use Rattle.cm_layout.proofs.{slots-append}
 use Rattle.cm_index.specs.declared.slot.BookSlot.{BookSlot}
 use Rattle.cm_index.specs.Living.{living}
-use Rattle.cm_rows.specs.Held.{chunks_of, Holds, first_chunks, own_chunk}
+use Rattle.cm_rows.specs.Held.{chunks_of_rows, PoolHolds, first_chunks, own_chunk}
 use Rattle.cm_rows.proofs.Holding.{give-back}
 use Rattle.cm_rows.proofs.Giving.{classes-append, first-append, firsts-some, firsts-none}
 
 module _ {X : Type 0} where
-  -- what lives before a place and behind it
+  -- what lives before a place and after it
   pub record Around (slots : List (BookSlot X)) (i : ℕ) (s x : BookSlot X) : Type 0 where
     pub front : List X
     pub rest : List X
@@ -84,42 +84,45 @@ module _ {P : Type 0} where
         slots-append a.front a.rest,
       )
 
-  firsts-append : (rows more : List (Row P)) → chunks_of (rows ++ more)
-      ≡ chunks_of rows ++ chunks_of more
+  firsts-append : (rows more : List (Row P)) → chunks_of_rows (rows ++ more)
+      ≡ chunks_of_rows rows ++ chunks_of_rows more
   firsts-append rows more = ap first_chunks (classes-append rows more)
       ∙ first-append (classes_in rows) (classes_in more)
 
   pub ended-gives : (sizes : Sizes) (p : FreeSpace) (slots : List (BookSlot (Row P))) (i : ℕ)
       (s x : BookSlot (Row P)) (c : Chunk)
       → slice_get slots i ≡ Some s → s.live ≡ true → x.live ≡ false → own_chunk s.item ≡ Some c
-      → Holds sizes p (chunks_of (living slots))
-      → IsUsedChunk p c × Holds sizes (with_chunk p c) (chunks_of (living (set slots i x)))
+      → PoolHolds sizes p (chunks_of_rows (living slots))
+      → IsUsedChunk p c × PoolHolds sizes (with_chunk p c)
+      (chunks_of_rows (living (set slots i x)))
   ended-gives sizes p slots i s x c there live dead own h =
       let a = around slots i s x there live dead in
-      let parts : chunks_of (living slots) ≡ chunks_of a.front ++ c ∷ chunks_of a.rest =
-      ap chunks_of a.was ∙ firsts-append a.front (s.item ∷ a.rest)
-      ∙ ap (λ l. chunks_of a.front ++ l) (firsts-some s.item a.rest c own) in
-      let given = give-back sizes p (chunks_of a.front) c (chunks_of a.rest)
-      (subst (λ (l : List Chunk). Holds sizes p l) parts h) in (
+      let parts : chunks_of_rows (living slots)
+      ≡ chunks_of_rows a.front ++ c ∷ chunks_of_rows a.rest =
+      ap chunks_of_rows a.was ∙ firsts-append a.front (s.item ∷ a.rest)
+      ∙ ap (λ l. chunks_of_rows a.front ++ l) (firsts-some s.item a.rest c own) in
+      let given = give-back sizes p (chunks_of_rows a.front) c (chunks_of_rows a.rest)
+      (subst (λ (l : List Chunk). PoolHolds sizes p l) parts h) in (
         given.0,
-        subst (λ (l : List Chunk). Holds sizes (with_chunk p c) l) (sym (ap chunks_of a.is
+        subst (λ (l : List Chunk). PoolHolds sizes (with_chunk p c) l)
+            (sym (ap chunks_of_rows a.is
             ∙ firsts-append a.front a.rest)) given.1,
       )
 
   pub ended-keeps : (sizes : Sizes) (p : FreeSpace) (slots : List (BookSlot (Row P))) (i : ℕ)
       (s x : BookSlot (Row P))
       → slice_get slots i ≡ Some s → s.live ≡ true → x.live ≡ false → own_chunk s.item ≡ None
-      → Holds sizes p (chunks_of (living slots))
-      → Holds sizes p (chunks_of (living (set slots i x)))
+      → PoolHolds sizes p (chunks_of_rows (living slots))
+      → PoolHolds sizes p (chunks_of_rows (living (set slots i x)))
   ended-keeps sizes p slots i s x there live dead own h =
       let a = around slots i s x there live dead in
-      let parts : chunks_of (living slots) ≡ chunks_of a.front ++ chunks_of a.rest =
-      ap chunks_of a.was ∙ firsts-append a.front (s.item ∷ a.rest)
-      ∙ ap (λ l. chunks_of a.front ++ l) (firsts-none s.item a.rest own) in
-      subst (λ (l : List Chunk). Holds sizes p l) (parts
-      ∙ sym (ap chunks_of a.is ∙ firsts-append a.front a.rest)) h
+      let parts : chunks_of_rows (living slots) ≡ chunks_of_rows a.front ++ chunks_of_rows a.rest =
+      ap chunks_of_rows a.was ∙ firsts-append a.front (s.item ∷ a.rest)
+      ∙ ap (λ l. chunks_of_rows a.front ++ l) (firsts-none s.item a.rest own) in
+      subst (λ (l : List Chunk). PoolHolds sizes p l) (parts
+      ∙ sym (ap chunks_of_rows a.is ∙ firsts-append a.front a.rest)) h
 
--- what stands within a list stands there
+-- an item at a place within a list is among the list
 pub get-at : {X : Type 0} (xs : List X) (i : ℕ) (d : X) → i < length xs
     → slice_get xs i ≡ Some (get_or xs i d)
 get-at [] i d lt = absurd (omega arith)

@@ -1,6 +1,6 @@
--- A pool with all roots that holds the chunks of rows: taking one more, giving one back, and one
--- for another.
--- For `Book+unit::copy_from`, `Book::add_loader`, `Book::clear` and others.
+-- A pool with all roots that holds the chunks of rows: taking another, giving one back, and
+-- swapping one for another.
+-- For `LiveRows+unit::copy_from`, `LiveRows::add_loader`, `LiveRows::clear` and others.
 use Rattle.std.proofs.Common.{◌≡◌, ◌≢◌, ℕ, ◌↔◌, List, [], ◌∷◌, ◌++◌, map, inl, inr, refl, sym, ◌∙◌}
 use Rattle.std.proofs.Common.{ap, subst, arith, append_assoc, append-nil}
 use Rattle.std.specs.List.{AllByRecursion}
@@ -13,7 +13,7 @@ use Rattle.cm_pool.specs.Lists.{Among, Pairwise}
 use Rattle.cm_pool.proofs.{none_lost-given, same_chunk-itself}
 use Rattle.cm_pool.proofs.{same_chunk-false, meets-itself}
 use Rattle.cm_pool.proofs.SpaceLaws.{taken_is_held, held_is_given, taking_loses_none}
-use Rattle.cm_rows.specs.Held.{Holds}
+use Rattle.cm_rows.specs.Held.{PoolHolds}
 use Rattle.cm_rows.proofs.Classes.{goes}
 
 pub each-among : {X : Type 0} (P : X → Type 0) (xs : List X) (x : X) → AllByRecursion P xs
@@ -22,8 +22,8 @@ each-among P [] x h none = absurd none
 each-among P (y ∷ xs) x h (inl e) = subst P (sym e) h.0
 each-among P (y ∷ xs) x h (inr m) = each-among P xs x h.1 m
 
--- a chunk is free that the region has and that shares no word with those held, and no other is
-pub free-is : (sizes : Sizes) (p : FreeSpace) (cs : List Chunk) (c : Chunk) → Holds sizes p cs
+-- a chunk is free exactly if the region has it and it shares no word with those held
+pub free-is : (sizes : Sizes) (p : FreeSpace) (cs : List Chunk) (c : Chunk) → PoolHolds sizes p cs
     → IsFreeChunk p c ↔ (IsChunk sizes c × ((d : Chunk) → Among d cs → ¬ Meets c d))
 free-is sizes p cs c h = (forth, back)
   where
@@ -59,7 +59,8 @@ free-is sizes p cs c h = (forth, back)
         }
 
 pub take-put : (sizes : Sizes) (p : FreeSpace) (xs : List Chunk) (c : Chunk) (ys : List Chunk)
-    → Holds sizes p (xs ++ ys) → IsFreeChunk p c → Holds sizes (without p c) (xs ++ c ∷ ys)
+    → PoolHolds sizes p (xs ++ ys) → IsFreeChunk p c
+    → PoolHolds sizes (without p c) (xs ++ c ∷ ys)
 take-put sizes p xs c ys h free =
     record {
       geometry = h.geometry;
@@ -68,14 +69,15 @@ take-put sizes p xs c ys h free =
       none_lost = taking_loses_none p xs c ys h.none_lost free;
     }
 
--- taken, behind the others
-pub take-push : (sizes : Sizes) (p : FreeSpace) (cs : List Chunk) (c : Chunk) → Holds sizes p cs
-    → IsFreeChunk p c → Holds sizes (without p c) (cs ++ c ∷ [])
+-- the chunk is taken and appended to the others
+pub take-push : (sizes : Sizes) (p : FreeSpace) (cs : List Chunk) (c : Chunk) → PoolHolds sizes p cs
+    → IsFreeChunk p c → PoolHolds sizes (without p c) (cs ++ c ∷ [])
 take-push sizes p cs c h free = take-put sizes p cs c [] (subst
-    (λ (l : List Chunk). Holds sizes p l) (sym (append-nil cs)) h) free
+    (λ (l : List Chunk). PoolHolds sizes p l) (sym (append-nil cs)) h) free
 
 pub give-back : (sizes : Sizes) (p : FreeSpace) (xs : List Chunk) (c : Chunk) (ys : List Chunk)
-    → Holds sizes p (xs ++ c ∷ ys) → IsUsedChunk p c × Holds sizes (with_chunk p c) (xs ++ ys)
+    → PoolHolds sizes p (xs ++ c ∷ ys) → IsUsedChunk p c
+    × PoolHolds sizes (with_chunk p c) (xs ++ ys)
 give-back sizes p xs c ys h =
     let given = held_is_given p xs c ys h.held in (
       given.0,
@@ -89,7 +91,7 @@ give-back sizes p xs c ys h =
 
 -- ---- one chunk for another
 
--- a chunk stands in the list, between others that it isn't
+-- a chunk is in the list, between others that differ from it
 record Stands (c : Chunk) (cs : List Chunk) : Type 0 where
   front : List Chunk
   back : List Chunk
@@ -140,18 +142,19 @@ swap-at from to (x ∷ xs) ys hx hy =
     refl
 
 -- the new chunk is taken, and then the old one is given back
-pub swap : (sizes : Sizes) (p : FreeSpace) (cs : List Chunk) (from to : Chunk) → Holds sizes p cs
+pub swap : (sizes : Sizes) (p : FreeSpace) (cs : List Chunk) (from to : Chunk)
+    → PoolHolds sizes p cs
     → Among from cs → IsFreeChunk p to
     → IsUsedChunk (without p to) from
-    × Holds sizes (with_chunk (without p to) from) (map (goes from to) cs)
+    × PoolHolds sizes (with_chunk (without p to) from) (map (goes from to) cs)
 swap sizes p cs from to h m free =
     let s = stands from cs h.held.apart m in
-    let parts : Holds sizes p (s.front ++ from ∷ s.back) = subst
-    (λ (l : List Chunk). Holds sizes p l) s.parts h in
-    let taken : Holds sizes (without p to) (s.front ++ to ∷ from ∷ s.back) =
+    let parts : PoolHolds sizes p (s.front ++ from ∷ s.back) = subst
+    (λ (l : List Chunk). PoolHolds sizes p l) s.parts h in
+    let taken : PoolHolds sizes (without p to) (s.front ++ to ∷ from ∷ s.back) =
     take-put sizes p s.front to (from ∷ s.back) parts free in
-    let turned : Holds sizes (without p to) ((s.front ++ to ∷ []) ++ from ∷ s.back) = subst
-    (λ (l : List Chunk). Holds sizes (without p to) l)
+    let turned : PoolHolds sizes (without p to) ((s.front ++ to ∷ []) ++ from ∷ s.back) = subst
+    (λ (l : List Chunk). PoolHolds sizes (without p to) l)
     (sym (append_assoc s.front (to ∷ []) (from ∷ s.back))) taken in
     let given = give-back sizes (without p to) (s.front ++ to ∷ []) from s.back turned in
     let result : (s.front ++ to ∷ []) ++ s.back ≡ map (goes from to) cs =
@@ -159,5 +162,5 @@ swap sizes p cs from to h m free =
     ∙ ap (λ (l : List Chunk). map (goes from to) l) (sym s.parts) in (
       given.0,
       subst
-          (λ (l : List Chunk). Holds sizes (with_chunk (without p to) from) l) result given.1,
+          (λ (l : List Chunk). PoolHolds sizes (with_chunk (without p to) from) l) result given.1,
     )

@@ -1,6 +1,6 @@
--- Loaders that keep their places: what lives of them, where one stands among those, and what stays
--- once the last ones that live no more are taken out.
--- For `Book+unit::copy_from`, `Book::add_loader`, `Book::define` and others.
+-- Loaders that keep their places: which of them live, where one is among those, and what stays once
+-- the dead ones at the end are removed.
+-- For `LiveRows+unit::copy_from`, `LiveRows::add_loader`, `LiveRows::define` and others.
 use Rattle.std.proofs.Common.{◌≡◌, ◌≢◌, ℕ, zero, suc, ◌+◌, ◌<◌, ◌≤◌, ◌⊎◌, Bool, true, false, cond}
 use Rattle.std.proofs.Common.{List, [], ◌∷◌, ◌++◌, length, take, drop, get_or, set, Option, None}
 use Rattle.std.proofs.Common.{Result, Ok, Err, IfSome, inl, inr, refl, sym, ◌∙◌, ap, subst, arith}
@@ -21,7 +21,8 @@ use Rattle.cm_index.specs.Living.{living, swept}
 use Rattle.cm_index.specs.Index.{LivesAt}
 use Rattle.cm_index.proofs.{living-append, length-swept}
 use Rattle.cm_rows.specs.declared.live_loader.LiveLoader.{LiveLoader}
-use Rattle.cm_rows.specs.Loaders.{numbers_of, Rises, IsAt, IsAbsent, items, IsKept}
+use Rattle.cm_rows.specs.Loaders.{numbers_of_loaders, Rises, LoaderIsAt, IsAbsent, items}
+use Rattle.cm_rows.specs.Loaders.{LoaderLivesAt}
 use Rattle.cm_rows.proofs.Loaders.{rises-at, at-among, absent-among}
 
 -- ---- any places
@@ -65,7 +66,7 @@ module _ {X : Type 0} where
       by_test true behind = ap (λ l. s.item ∷ l) behind
       by_test false behind = behind
 
-  -- what is known of all is known of those that live
+  -- what holds for all holds for those that live
   pub all-kept : (P : X → Type 0) (slots : List (BookSlot X)) → AllByRecursion P (items slots)
       → AllByRecursion P (living slots)
   all-kept P [] h = tt
@@ -82,7 +83,7 @@ module _ {X : Type 0} where
   none-living (s ∷ slots) h =
       ap (λ (t : Bool). cond t (s.item ∷ living slots) (living slots)) h.0 ∙ none-living slots h.1
 
-  -- one more
+  -- one more live item
   pub swept-more : (slots : List (BookSlot X)) (i : ℕ) (d : BookSlot X) → i < length slots
       → swept (take (i + 1) slots) ≡ swept (take i slots) ++ swept (get_or slots i d ∷ [])
   swept-more slots i d lt =
@@ -98,7 +99,7 @@ module _ {X : Type 0} where
           by_test true behind = ap (λ l. t ∷ l) behind
           by_test false behind = behind
 
-  -- there is room for one more of those that live
+  -- there is room for one more live item
   room-for : (slots : List (BookSlot X)) (i : ℕ) (d : BookSlot X) → i < length slots
       → length (swept (take i slots)) + length (living (get_or slots i d ∷ []))
       ≤ length (living slots)
@@ -131,7 +132,7 @@ module _ {X : Type 0} where
   room-there slots i n capacity d lt same le = let few = room-for slots i d lt in
       omega (arith, few, same, le)
 
-  -- behind an end nothing lives
+  -- after an end nothing lives
   pub living-end : (slots : List (BookSlot X)) (n : ℕ)
       → AllByRecursion (λ s. s.live ≡ false) (drop n slots)
       → living (take n slots) ≡ living slots
@@ -143,7 +144,7 @@ module _ {X : Type 0} where
       nothing [] ys e = sym e
       nothing (x ∷ xs) ys e = ap (λ l. x ∷ l) (nothing xs ys e)
 
-  -- where all live, each does
+  -- if all live, each does
   pub each-lives : {slots : List (BookSlot X)} (k : ℕ) → AllByRecursion (λ s. s.live ≡ true) slots
       → k < length slots
       → LivesAt slots k
@@ -156,7 +157,7 @@ module _ {X : Type 0} where
       by_place (s ∷ slots) zero h lt d = h.0
       by_place (s ∷ slots) (suc k) h lt d = by_place slots k h.1 (omega arith) d
 
-  -- the last one lives, with one more that does
+  -- the last one lives, after a live one is appended
   pub lives-push : (slots : List (BookSlot X)) (s : BookSlot X) (k : ℕ) → s.live ≡ true
       → length (slots ++ s ∷ []) ≡ k + 1
       → LivesAt (slots ++ s ∷ []) k
@@ -167,7 +168,7 @@ module _ {X : Type 0} where
             ∙ ap (λ (t : BookSlot X). t.live) (get_or-append_seam slots s [] d) ∙ live;
       }
 
-  -- and with one changed to one that does
+  -- the last one lives, after one is replaced by a live one
   pub lives-set : (slots : List (BookSlot X)) (i : ℕ) (s : BookSlot X) (k : ℕ) → s.live ≡ true
       → k < length slots
       → LivesAt slots k → LivesAt (set slots i s) k
@@ -182,7 +183,7 @@ module _ {X : Type 0} where
       by_place (t ∷ slots) (suc i) zero lt h d = h d
       by_place (t ∷ slots) (suc i) (suc k) lt h d = by_place slots i k (omega arith) h d
 
-  -- and where those behind it are taken out
+  -- the last one lives, after those following it are removed
   pub lives-take : (slots : List (BookSlot X)) (n k : ℕ) → n ≡ k + 1 → n ≤ length slots
       → LivesAt slots k
       → LivesAt (take n slots) k
@@ -192,7 +193,7 @@ module _ {X : Type 0} where
             ∙ h.is d;
       }
 
-  -- where one that lives stands among those that do
+  -- where a live one is among those that live
   pub record StandsAmong (slots : List (BookSlot X)) (i : ℕ) : Type 0 where
     pub place : ℕ
     pub within : place < length (living slots)
@@ -265,7 +266,8 @@ rise slots n h i j d le within =
 
 pub searched : (slots : List (BookSlot LiveLoader)) (n : ℕ) (r : Result ℕ ℕ) → Rises (items slots)
     → IsSearchInRange r (length slots) → IsBinarySearchResult (λ s. nat_cmp s.item.number n) slots r
-    → IfSome (result_ok r) (IsAt (items slots) n) × IfNone (result_ok r) (IsAbsent (items slots) n)
+    → IfSome (result_ok r) (LoaderIsAt (items slots) n)
+    × IfNone (result_ok r) (IsAbsent (items slots) n)
 searched slots n (Ok at) h within equal = (
   record {
     within = omega (arith, within, length-map slots (λ (s : BookSlot LiveLoader). s.item));
@@ -293,7 +295,7 @@ searched slots n (Err at) h within parted = (
     elsewhere k d lt (inr behind) same = let more : n < (get_or slots k d).item.number =
         ranked _ n _ (sym ((parted (rise slots n h)).1 k d behind lt)) in omega arith
 
--- by place and by recursion
+-- the same by place and by recursion
 absent-by : (ls : List LiveLoader) (u : ℕ)
     → ((k : ℕ) (d : LiveLoader) → k < length ls → (get_or ls k d).number ≢ u)
     → AllByRecursion (λ l. l.number ≢ u) ls
@@ -307,7 +309,7 @@ by-absent [] u h k d lt = absurd (omega arith)
 by-absent (l ∷ ls) u h zero d lt = h.0
 by-absent (l ∷ ls) u h (suc k) d lt = by-absent ls u h.1 k d (omega arith)
 
--- none of all is none of those that live
+-- what is none of all is none of those that live
 pub absent-living : (slots : List (BookSlot LiveLoader)) (u : ℕ) → IsAbsent (items slots) u
     → IsAbsent (living slots) u
 absent-living slots u h =
@@ -319,16 +321,16 @@ absent-living slots u h =
     }
 
 pub dead-any : (slots : List (BookSlot LiveLoader)) (u i : ℕ) (d : BookSlot LiveLoader)
-    → IsAt (items slots) u i
+    → LoaderIsAt (items slots) u i
     → (get_or slots i d).live ≡ false → (e : BookSlot LiveLoader) → (get_or slots i e).live ≡ false
 dead-any slots u i d at dead e =
     let within : i < length slots =
     omega (arith, at.within, length-map slots (λ (s : BookSlot LiveLoader). s.item)) in
     ap (λ (s : BookSlot LiveLoader). s.live) (same-default slots i e d within) ∙ dead
 
--- the number of one that lives no more is that of none that does
+-- the number of a dead one is that of none that lives
 pub absent-dead : (slots : List (BookSlot LiveLoader)) (u i : ℕ) → Rises (items slots)
-    → IsAt (items slots) u i
+    → LoaderIsAt (items slots) u i
     → ((d : BookSlot LiveLoader) → (get_or slots i d).live ≡ false) → IsAbsent (living slots) u
 absent-dead slots u i h at dead =
     record {
@@ -374,10 +376,10 @@ absent-dead slots u i h at dead =
             (λ same. omega (arith, before, e, same), behind)
         by_test false behind = behind
 
--- one that is kept is one of those that live
-pub at-living : (slots : List (BookSlot LiveLoader)) (u i : ℕ) (kept : IsKept slots u i)
+-- one that is kept is among those that live
+pub at-living : (slots : List (BookSlot LiveLoader)) (u i : ℕ) (kept : LoaderLivesAt slots u i)
     (s : StandsAmong slots i)
-    → IsAt (living slots) u s.place
+    → LoaderIsAt (living slots) u s.place
 at-living slots u i kept s =
     record {
       within = s.within;
@@ -386,25 +388,26 @@ at-living slots u i kept s =
           ∙ get-items slots i (record { item = d; live = true })) ∙ kept.at.number_is d;
     }
 
-pub stands : (slots : List (BookSlot LiveLoader)) (u i : ℕ) → IsKept slots u i → StandsAmong slots i
+pub stands : (slots : List (BookSlot LiveLoader)) (u i : ℕ) → LoaderLivesAt slots u i
+    → StandsAmong slots i
 stands slots u i kept =
     stands-among slots i (omega
     (arith, kept.at.within, length-map slots (λ (s : BookSlot LiveLoader). s.item))) kept.lives
 
--- one that is kept is found again where the same live
+-- one that is kept is found again if the same ones live
 pub found-again : (slots more : List (BookSlot LiveLoader)) (u i : ℕ) (o : Option ℕ)
-    → IsKept slots u i
+    → LoaderLivesAt slots u i
     → living more ≡ living slots → IfNone o (IsAbsent (living more) u) → IsSome o
 found-again slots more u i None kept same absent =
     let at = at-living slots u i kept (stands slots u i kept) in
-    let there : Among u (numbers_of (living slots)) =
+    let there : Among u (numbers_of_loaders (living slots)) =
     at-among u (living slots) (stands slots u i kept).place nobody at.within
     (at.number_is nobody) in
     absurd (absent-among u (living more) absent
-    (subst (λ (ls : List LiveLoader). Among u (numbers_of ls)) (sym same) there))
+    (subst (λ (ls : List LiveLoader). Among u (numbers_of_loaders ls)) (sym same) there))
 found-again slots more u i (Some j) kept same absent = refl
 
--- what a place has is what the place among the living has
+-- what a place has is what its place among the live ones has
 pub same-kept : (slots : List (BookSlot LiveLoader)) (i : ℕ) (s : StandsAmong slots i)
     (x : BookSlot LiveLoader)
     → x ≡ get_or slots i x → x.item ≡ get_or (living slots) s.place x.item
@@ -434,7 +437,7 @@ rises-take zero ls h = tt
 rises-take (suc n) [] h = tt
 rises-take (suc n) (l ∷ ls) h = (all-take (Below l) n ls h.0, rises-take n ls h.1)
 
--- what is below a number among the living is so among all, since the last lives
+-- numbers below n among the live ones are below n among all, since the last one lives
 pub all-below : (slots : List (BookSlot LiveLoader)) (n : ℕ) → Rises (items slots)
     → ((k : ℕ) → length slots ≡ k + 1 → LivesAt slots k)
     → AllByRecursion (λ l. l.number < n) (living slots)
@@ -464,11 +467,11 @@ all-below slots n h last below = by_rest slots h.each (λ k e d. (last k e).is d
         rest true ls all = all.1
         rest false ls all = all
 
--- all living numbers are below one that the last is below
+-- all numbers of live ones are below a number that the last one is below
 pub above-living : (n : ℕ) (slots : List (BookSlot LiveLoader)) (k : ℕ) (d : BookSlot LiveLoader)
     → Rises (items slots)
     → length slots ≡ suc k → (get_or slots k d).live ≡ true → list_all
-    (λ u. nat_lt u n) (numbers_of (living slots)) ≡ nat_lt (get_or slots k d).item.number n
+    (λ u. nat_lt u n) (numbers_of_loaders (living slots)) ≡ nat_lt (get_or slots k d).item.number n
 above-living n slots k d h e live = by_rest slots k h.each e live
   where
     single : (t : Bool) → (t && true) ≡ t
@@ -498,28 +501,29 @@ above-living n slots k d h e live = by_rest slots k h.each e live
     by_rest : (slots : List (BookSlot LiveLoader)) (k : ℕ) → Pairwise Below (items slots)
         → length slots ≡ suc k
         → (get_or slots k d).live ≡ true
-        → list_all (λ u. nat_lt u n) (numbers_of (living slots))
+        → list_all (λ u. nat_lt u n) (numbers_of_loaders (living slots))
         ≡ nat_lt (get_or slots k d).item.number n
     by_rest [] k h e live = absurd (omega arith)
     by_rest (s ∷ []) zero h e live =
-        ap (λ (t : Bool). list_all (λ u. nat_lt u n) (numbers_of (cond t (s.item ∷ []) []))) live
+        ap (λ (t : Bool). list_all (λ u. nat_lt u n) (numbers_of_loaders (cond t (s.item ∷ []) [])))
+        live
         ∙ single (nat_lt s.item.number n)
     by_rest (s ∷ []) (suc k) h e live = absurd (omega arith)
     by_rest (s ∷ t ∷ slots) zero h e live = absurd (omega arith)
     by_rest (s ∷ t ∷ slots) (suc k) h e live =
         by_test s.live (by_rest (t ∷ slots) k h.1 (omega arith) live)
       where
-        by_test : (b : Bool) → list_all (λ u. nat_lt u n) (numbers_of (living (t ∷ slots)))
+        by_test : (b : Bool) → list_all (λ u. nat_lt u n) (numbers_of_loaders (living (t ∷ slots)))
             ≡ nat_lt (get_or (t ∷ slots) k d).item.number n
             → list_all (λ u. nat_lt u n)
-            (numbers_of (cond b (s.item ∷ living (t ∷ slots)) (living (t ∷ slots))))
+            (numbers_of_loaders (cond b (s.item ∷ living (t ∷ slots)) (living (t ∷ slots))))
             ≡ nat_lt (get_or (t ∷ slots) k d).item.number n
         by_test true behind =
             let before =
             less (items (t ∷ slots)) s.item k d.item h.0
             (omega (arith, e, length-map slots (λ (s : BookSlot LiveLoader). s.item))) in
             both s.item.number (get_or (t ∷ slots) k d).item.number
-            (list_all (λ u. nat_lt u n) (numbers_of (living (t ∷ slots))))
+            (list_all (λ u. nat_lt u n) (numbers_of_loaders (living (t ∷ slots))))
             (omega (arith, before, ap (λ (l : LiveLoader). l.number) (get-items (t ∷ slots) k d)))
             behind
         by_test false behind = behind

@@ -16,8 +16,8 @@ mod Books
 mod Placed
 mod ClassPlaces
 mod Above
--- Numbers of commands are above those of all loaders that live.
+-- Numbers of commands are above those of all live loaders.
 pub use Above.{above_row, above_entry}
--- The classes of rows after a move: those on the old chunk lie on the new one.
+-- The classes of rows after a move: those on the old chunk are on the new one.
 pub use Classes.{moved_class}
 pub use RowFacts.{classes-moved}

@@ -1,5 +1,5 @@
--- The links of places: one place more, one whose row ends, a loader unloaded, and rows that move.
--- For `Book::clear`, `Book::new`, `move_rows` and others.
+-- The links of places: one more place, a row that ends, a loader unloaded, and rows that move.
+-- For `LiveRows::clear`, `LiveRows::new`, `move_rows` and others.
 use Rattle.std.proofs.Common.{◌≡◌, ◌≢◌, ℕ, zero, suc, ◌+◌, ◌<◌, ◌≤◌, ◌⊎◌, Bool, true, false, cond}
 use Rattle.std.proofs.Common.{eqb, List, [], ◌∷◌, ◌++◌, map, length, take, get_or, set, Option}
 use Rattle.std.proofs.Common.{Some, None, refl, sym, ◌∙◌, ap, subst, arith, inl, inr, length-append}
@@ -22,7 +22,7 @@ use Rattle.cm_layout.specs.Rows.{is_of, moved_row, classes_in, numbers_in}
 use Rattle.cm_index.specs.declared.slot.BookSlot.{BookSlot}
 use Rattle.cm_index.specs.Living.{living, unloaded, moved_slot}
 use Rattle.cm_rows.specs.declared.live_loader.LiveLoader.{LiveLoader}
-use Rattle.cm_rows.specs.Loaders.{numbers_of, items}
+use Rattle.cm_rows.specs.Loaders.{numbers_of_loaders, items}
 use Rattle.cm_rows.specs.Links.{loader_in, place_behind, last_place, AreLinked, last_places, ended}
 use Rattle.cm_rows.specs.Links.{places_left}
 use Rattle.cm_rows.proofs.Loaders.{ne-eqb}
@@ -77,7 +77,7 @@ take-mapped f xs zero = refl
 take-mapped f [] (suc j) = refl
 take-mapped f (x ∷ xs) (suc j) = ap (λ l. f x ∷ l) (take-mapped f xs j)
 
--- what stands in a list with one behind it is one of the list's, or that one
+-- what is in a list with one appended is in the list, or is that one
 pub record GetsOld {X : Type 0} (xs : List X) (x : X) (i : ℕ) (s : X) : Type 0 where
   pub within : i < length xs
   pub there : slice_get xs i ≡ Some s
@@ -175,7 +175,7 @@ module _ {P : Type 0} where
           ∙ ap (λ (b : Bool). cond b (Some 0) None) h.0
       by_test none false e h = ap (λ (o : Option ℕ). place_behind o false) (none h)
 
-  -- none is left of a loader without a last place
+  -- a loader without a last place has no live rows
   pub none-place : (u : ℕ) (slots : List (BookSlot (Row P))) → last_place u slots ≡ None
       → map (unloaded u) slots ≡ slots
   none-place u [] h = refl
@@ -221,7 +221,7 @@ module _ {P : Type 0} where
           let found = behind i (is ∙ ap Some same) in
           record { slot = found.slot; there = found.there; lives = found.lives; own = found.own }
 
-  -- no living row of the loader stands behind it
+  -- no live row of the loader comes after its last place
   pub none-behind : (u : ℕ) (slots : List (BookSlot (Row P))) (i j : ℕ) (s : BookSlot (Row P))
       → last_place u slots ≡ Some i → slice_get slots j ≡ Some s → mine u s ≡ true → j ≤ i
   none-behind u [] i j s h there e = absurd (cc)
@@ -259,7 +259,7 @@ module _ {P : Type 0} where
           let same : suc k ≡ i = cc in
           omega (arith, le, same)
 
-  -- where the last row ends, the one before it is the last
+  -- if the last row ends, the one before it is the last
   pub place-ended : (u : ℕ) (slots : List (BookSlot (Row P))) (i : ℕ) (x : BookSlot (Row P))
       → last_place u slots ≡ Some i → x.live ≡ false
       → last_place u (set slots i x) ≡ last_place u (take i slots)
@@ -283,7 +283,7 @@ module _ {P : Type 0} where
           let same : j ≡ i = cc in
           ap (λ (o : Option ℕ). place_behind o (mine u s)) (behind i (is ∙ ap Some same))
 
-  -- of another loader it stays
+  -- the last place of another loader stays
   pub place-set : (v : ℕ) (slots : List (BookSlot (Row P))) (i : ℕ) (x : BookSlot (Row P))
       → ((s : BookSlot (Row P)) → slice_get slots i ≡ Some s → mine v x ≡ mine v s)
       → last_place v (set slots i x) ≡ last_place v slots
@@ -309,7 +309,7 @@ module _ {P : Type 0} where
   pub linked-none : AreLinked {P = P} [] []
   linked-none = record { same = refl; each = λ i s there. absurd (cc) }
 
-  -- a row more
+  -- one more row
   pub linked-push : (slots : List (BookSlot (Row P))) (before : List (Option ℕ))
       (s : BookSlot (Row P))
       (b : Option ℕ)
@@ -383,7 +383,7 @@ module _ {P : Type 0} where
           ap (λ (b : Bool). b && is_of v x.item) dead
           ∙ sym (ap (λ (b : Bool). s.live && b) none ∙ and-false s.live)))
 
-  -- records lie on another chunk
+  -- records moved to another chunk
   slot-loader_in : (from to : Chunk) (s : BookSlot (Row P)) → loader_in (moved_slot from to s).item
       ≡ loader_in s.item
   slot-loader_in from to s = by_test s.live
@@ -417,7 +417,7 @@ module _ {P : Type 0} where
       }
 
 module _ {P : Type 0} where
-  -- beside the last place of a loader stands the one before it
+  -- at the last place of a loader, `before` has the place before it
   pub last-before : (u : ℕ) (slots : List (BookSlot (Row P))) (before : List (Option ℕ)) (i : ℕ)
       → AreLinked slots before → last_place u slots ≡ Some i
       → get_or before i None ≡ last_place u (take i slots)
@@ -427,7 +427,7 @@ module _ {P : Type 0} where
       eqb-true (loader_in at.slot.item) u (sym (of-is u at.slot.item) ∙ at.own) in
       h.each i at.slot at.there at.lives ∙ ap (λ (v : ℕ). last_place v (take i slots)) loader
 
-  -- which is less
+  -- which is a lower place
   pub place-less : (u : ℕ) (slots : List (BookSlot (Row P))) (i : ℕ)
       → places_left (last_place u (take i slots)) ≤ i
   place-less u slots i = by_place (last_place u (take i slots)) refl
@@ -459,17 +459,17 @@ module _ {P : Type 0} where
   places-same slots more (n ∷ ns) same = ap (λ (o : Option ℕ). o ∷ last_places more ns) (same n)
       ∙ ap (λ (os : List (Option ℕ)). last_place n slots ∷ os) (places-same slots more ns same)
 
-  -- a row more of the loader at a place
+  -- one more row, of the loader at a place
   pub places-push : (slots : List (BookSlot (Row P))) (s : BookSlot (Row P)) (ls : List LiveLoader)
       (i : ℕ)
       (d : LiveLoader)
       → s.live ≡ true → Pairwise Below ls → i < length ls → (get_or ls i d).number
       ≡ loader_in s.item
-      → set (last_places slots (numbers_of ls)) i (Some (length slots))
-      ≡ last_places (slots ++ s ∷ []) (numbers_of ls)
+      → set (last_places slots (numbers_of_loaders ls)) i (Some (length slots))
+      ≡ last_places (slots ++ s ∷ []) (numbers_of_loaders ls)
   places-push slots s [] i d live h lt e = absurd (omega arith)
   places-push slots s (l ∷ ls) zero d live h lt e =
-      ap (λ (o : Option ℕ). o ∷ last_places slots (numbers_of ls))
+      ap (λ (o : Option ℕ). o ∷ last_places slots (numbers_of_loaders ls))
       (sym (own slots s l.number live e))
       ∙ ap (λ (os : List (Option ℕ)). last_place l.number (slots ++ s ∷ []) ∷ os)
       (others slots s ls l.number e live h.0)
@@ -487,10 +487,11 @@ module _ {P : Type 0} where
           (u : ℕ)
           → u ≡ loader_in s.item → s.live ≡ true
           → AllByRecursion (λ m. u < m.number) ls
-          → last_places slots (numbers_of ls) ≡ last_places (slots ++ s ∷ []) (numbers_of ls)
+          → last_places slots (numbers_of_loaders ls)
+          ≡ last_places (slots ++ s ∷ []) (numbers_of_loaders ls)
       others slots s [] u e live h = refl
       others slots s (m ∷ ls) u e live h =
-          ap (λ (o : Option ℕ). o ∷ last_places slots (numbers_of ls))
+          ap (λ (o : Option ℕ). o ∷ last_places slots (numbers_of_loaders ls))
           (sym (other-push slots s m.number (λ same. omega (arith, h.0, e, same))))
           ∙ ap (λ (os : List (Option ℕ)). last_place m.number (slots ++ s ∷ []) ∷ os)
           (others slots s ls u e live h.1)
@@ -505,7 +506,8 @@ module _ {P : Type 0} where
               ∙ ap (λ (b : Bool). cond b (Some (length slots)) (last_place v slots))
               (and-false s.live)
   places-push slots s (l ∷ ls) (suc i) d live h lt e =
-      ap (λ (o : Option ℕ). o ∷ set (last_places slots (numbers_of ls)) i (Some (length slots)))
+      ap (λ (o : Option ℕ). o ∷ set (last_places slots (numbers_of_loaders ls)) i
+      (Some (length slots)))
       (sym (before-push slots s l.number
       (λ same. omega (arith, number-behind ls i d l h.0 (omega arith), same, e))))
       ∙ ap (λ (os : List (Option ℕ)). last_place l.number (slots ++ s ∷ []) ∷ os)
@@ -520,7 +522,7 @@ module _ {P : Type 0} where
           (of-is v s.item ∙ ne-eqb (loader_in s.item) v (λ same. n (sym same)))
           ∙ ap (λ (b : Bool). cond b (Some (length slots)) (last_place v slots)) (and-false s.live)
 
-  -- no row lives of a loader that is unloaded
+  -- no row of an unloaded loader lives
   place-unloaded : (u : ℕ) (slots : List (BookSlot (Row P)))
       → last_place u (map (unloaded u) slots) ≡ None
   place-unloaded u [] = refl
@@ -533,15 +535,15 @@ module _ {P : Type 0} where
       by_tests true false = refl
       by_tests false b = refl
 
-  -- without a loader
+  -- the last places without a loader
   pub places-unloaded : (u : ℕ) (slots : List (BookSlot (Row P))) (ls : List LiveLoader) (i : ℕ)
       (d : LiveLoader)
       → Pairwise Below ls → i < length ls → (get_or ls i d).number ≡ u
-      → set (last_places slots (numbers_of ls)) i None
-      ≡ last_places (map (unloaded u) slots) (numbers_of ls)
+      → set (last_places slots (numbers_of_loaders ls)) i None
+      ≡ last_places (map (unloaded u) slots) (numbers_of_loaders ls)
   places-unloaded u slots [] i d h lt e = absurd (omega arith)
   places-unloaded u slots (l ∷ ls) zero d h lt e =
-      ap (λ (o : Option ℕ). o ∷ last_places slots (numbers_of ls))
+      ap (λ (o : Option ℕ). o ∷ last_places slots (numbers_of_loaders ls))
       (sym (ap (λ (v : ℕ). last_place v (map (unloaded u) slots)) e ∙ place-unloaded u slots))
       ∙ ap (λ (os : List (Option ℕ)). last_place l.number (map (unloaded u) slots) ∷ os)
       (rest u slots ls (above ls l.number u e h.0))
@@ -553,32 +555,34 @@ module _ {P : Type 0} where
 
       rest : (u : ℕ) (slots : List (BookSlot (Row P))) (ls : List LiveLoader)
           → AllByRecursion (λ m. u < m.number) ls
-          → last_places slots (numbers_of ls) ≡ last_places (map (unloaded u) slots) (numbers_of ls)
+          → last_places slots (numbers_of_loaders ls)
+          ≡ last_places (map (unloaded u) slots) (numbers_of_loaders ls)
       rest u slots [] h = refl
       rest u slots (m ∷ ls) h =
-          ap (λ (o : Option ℕ). o ∷ last_places slots (numbers_of ls))
+          ap (λ (o : Option ℕ). o ∷ last_places slots (numbers_of_loaders ls))
           (sym (place-of_other u m.number slots (λ same. omega (arith, h.0, same))))
           ∙ ap (λ (os : List (Option ℕ)). last_place m.number (map (unloaded u) slots) ∷ os)
           (rest u slots ls h.1)
   places-unloaded u slots (l ∷ ls) (suc i) d h lt e =
-      ap (λ (o : Option ℕ). o ∷ set (last_places slots (numbers_of ls)) i None)
+      ap (λ (o : Option ℕ). o ∷ set (last_places slots (numbers_of_loaders ls)) i None)
       (sym (place-of_other u l.number slots
       (λ same. omega (arith, number-behind ls i d l h.0 (omega arith), e, same))))
       ∙ ap (λ (os : List (Option ℕ)). last_place l.number (map (unloaded u) slots) ∷ os)
       (places-unloaded u slots ls i d h.1 (omega arith) e)
 
-  -- of the first loaders
+  -- the last places of the first loaders
   pub places-take : (slots : List (BookSlot (Row P))) (n : ℕ) (ls : List LiveLoader)
-      → take n (last_places slots (numbers_of ls)) ≡ last_places slots (numbers_of (take n ls))
+      → take n (last_places slots (numbers_of_loaders ls))
+      ≡ last_places slots (numbers_of_loaders (take n ls))
   places-take slots zero ls = refl
   places-take slots (suc n) [] = refl
   places-take slots (suc n) (l ∷ ls) =
       ap (λ (os : List (Option ℕ)). last_place l.number slots ∷ os) (places-take slots n ls)
 
-  -- what stands at a loader's place is its last place
+  -- `newest` has a loader's last place
   pub places-at : (slots : List (BookSlot (Row P))) (ls : List LiveLoader) (i : ℕ) (d : LiveLoader)
       (o : Option ℕ)
-      → i < length ls → get_or (last_places slots (numbers_of ls)) i o
+      → i < length ls → get_or (last_places slots (numbers_of_loaders ls)) i o
       ≡ last_place (get_or ls i d).number slots
   places-at slots [] i d o lt = absurd (omega arith)
   places-at slots (l ∷ ls) zero d o lt = refl
@@ -601,9 +605,9 @@ module _ {P : Type 0} where
   unloaded-ended u (z ∷ slots) (suc i) s there own =
       ap (λ l. unloaded u z ∷ l) (unloaded-ended u slots i s there own)
 
--- no loader has a place among none
+-- no loader has a place if there are no rows
 pub places-none : (P : Type 0) (ls : List (BookSlot LiveLoader))
-    → map (λ l. None) ls ≡ last_places {P = P} [] (numbers_of (items ls))
+    → map (λ l. None) ls ≡ last_places {P = P} [] (numbers_of_loaders (items ls))
 places-none P [] = refl
 places-none P (l ∷ ls) = ap (λ (os : List (Option ℕ)). None ∷ os) (places-none P ls)
 
@@ -620,7 +624,7 @@ none-more ls i lt =
     ap (λ (n : ℕ). map {B = Option ℕ} (λ l. None) (take n ls)) (add-one i) ∙ none-suc ls i lt
 
 module _ {P : Type 0} where
-  -- what is known of living rows is known at each place where all live
+  -- what holds for live rows holds at each place if all live
   pub all-living : (Q : Row P → Type 0) (slots : List (BookSlot (Row P))) (i : ℕ)
       (d : BookSlot (Row P))
       → AllByRecursion Q (living slots) → AllByRecursion (λ s. s.live ≡ true) slots

@@ -1,4 +1,4 @@
--- The live loaders: what a change of one does to what is kept of each.
+-- The live loaders: how a change of one affects what is kept of each.
 -- For `relink`.
 use Rattle.std.proofs.Common.{◌≡◌, ◌≢◌, ℕ, zero, suc, ◌<◌, Bool, true, false, cond, eqb}
 use Rattle.std.proofs.Common.{List, [], ◌∷◌, ◌++◌, length, get_or, set, Option, None}
@@ -9,7 +9,7 @@ use Rattle.std.proofs.lemmas.Bool.{eqb-true, eq-eqb}
 use Rattle.cm_pool.specs.Lists.{Among, Pairwise}
 use Rattle.cm_rows.specs.declared.live_loader.LastChunk.{LastChunk}
 use Rattle.cm_rows.specs.declared.live_loader.LiveLoader.{LiveLoader}
-use Rattle.cm_rows.specs.Loaders.{numbers_of, IsAbsent, last_in}
+use Rattle.cm_rows.specs.Loaders.{numbers_of_loaders, IsAbsent, last_in}
 
 -- ---- lists
 
@@ -20,7 +20,7 @@ inside [] i d e h = absurd (omega arith)
 inside (l ∷ ls) zero d e h = refl
 inside (l ∷ ls) (suc i) d e h = inside ls i d e (omega arith)
 
--- what is known of each stands at each place
+-- what holds for each loader holds at each place
 each-at : (P : LiveLoader → Type 0) (ls : List LiveLoader) (i : ℕ) (d : LiveLoader)
     → AllByRecursion P ls → i < length ls → P (get_or ls i d)
 each-at P [] i d h lt = absurd (omega arith)
@@ -46,7 +46,7 @@ ne-eqb a b n = by_test (eqb a b) refl
     by_test true e = absurd (n (eqb-true a b e))
     by_test false e = refl
 
--- a number below all of them is none of theirs
+-- a number below all of them is the number of none
 absent-below : (v : ℕ) (ls : List LiveLoader) → AllByRecursion (λ l. v < l.number) ls
     → last_in v ls ≡ None
 absent-below v [] h = refl
@@ -140,9 +140,9 @@ last_in-push u v (l ∷ ls) h = ap
 
 pub numbers-set : (u : ℕ) (o : Option LastChunk) (ls : List LiveLoader) (i : ℕ) (d : LiveLoader)
     → i < length ls → (get_or ls i d).number ≡ u
-    → numbers_of (set ls i (record { number = u; last = o })) ≡ numbers_of ls
+    → numbers_of_loaders (set ls i (record { number = u; last = o })) ≡ numbers_of_loaders ls
 numbers-set u o [] i d lt e = refl
-numbers-set u o (l ∷ ls) zero d lt e = ap (λ n. n ∷ numbers_of ls) (sym e)
+numbers-set u o (l ∷ ls) zero d lt e = ap (λ n. n ∷ numbers_of_loaders ls) (sym e)
 numbers-set u o (l ∷ ls) (suc i) d lt e = ap
     (λ ns. l.number ∷ ns) (numbers-set u o ls i d (omega arith) e)
 
@@ -178,16 +178,16 @@ rises-remove [] (suc i) h = h
 rises-remove (l ∷ ls) zero h = h.1
 rises-remove (l ∷ ls) (suc i) h = (all-remove (Below l) ls i h.0, rises-remove ls i h.1)
 
--- numbers that differ stay
+-- filtering keeps numbers that differ
 none-filtered : (u : ℕ) (ls : List LiveLoader) → AllByRecursion (λ l. u < l.number) ls → filter
-    (λ n. not (eqb n u)) (numbers_of ls) ≡ numbers_of ls
+    (λ n. not (eqb n u)) (numbers_of_loaders ls) ≡ numbers_of_loaders ls
 none-filtered u [] h = refl
 none-filtered u (l ∷ ls) h = rw (ne-eqb l.number u (λ e. omega (arith, h.0))) (ap
     (λ ns. l.number ∷ ns) (none-filtered u ls h.1))
 
 pub numbers-remove : (u : ℕ) (ls : List LiveLoader) (i : ℕ) (d : LiveLoader) → Pairwise Below ls
-    → i < length ls → (get_or ls i d).number ≡ u → numbers_of (remove ls i) ≡ filter
-    (λ n. not (eqb n u)) (numbers_of ls)
+    → i < length ls → (get_or ls i d).number ≡ u → numbers_of_loaders (remove ls i) ≡ filter
+    (λ n. not (eqb n u)) (numbers_of_loaders ls)
 numbers-remove u [] i d h lt e = absurd (omega arith)
 numbers-remove u (l ∷ ls) zero d h lt e =
     rw (eq-eqb l.number u e) (sym (none-filtered u ls (all-below ls l u e h.0)))
@@ -207,28 +207,29 @@ rises-push [] l h below = (tt, tt)
 rises-push (m ∷ ls) l h below = (all-push (Below m) ls l h.0 below.0, rises-push ls l h.1 below.1)
 
 pub numbers-push : (ls : List LiveLoader) (l : LiveLoader)
-    → numbers_of (ls ++ l ∷ []) ≡ numbers_of ls ++ l.number ∷ []
+    → numbers_of_loaders (ls ++ l ∷ []) ≡ numbers_of_loaders ls ++ l.number ∷ []
 numbers-push [] l = refl
 numbers-push (m ∷ ls) l = ap (λ ns. m.number ∷ ns) (numbers-push ls l)
 
--- a fact of each number, of each loader
-pub all-numbers : (P : ℕ → Type 0) (ls : List LiveLoader) → AllByRecursion P (numbers_of ls)
+-- a fact about each number is one about each loader
+pub all-numbers : (P : ℕ → Type 0) (ls : List LiveLoader) → AllByRecursion P (numbers_of_loaders ls)
     → AllByRecursion (λ l. P l.number) ls
 all-numbers P [] h = tt
 all-numbers P (l ∷ ls) h = (h.0, all-numbers P ls h.1)
 
--- a loader that is found is one of them, and one that isn't isn't
+-- a loader that is found is one of them, and one that isn't found is none of them
 pub at-among : (u : ℕ) (ls : List LiveLoader) (i : ℕ) (d : LiveLoader) → i < length ls
-    → (get_or ls i d).number ≡ u → Among u (numbers_of ls)
+    → (get_or ls i d).number ≡ u → Among u (numbers_of_loaders ls)
 at-among u [] i d lt e = absurd (omega arith)
 at-among u (l ∷ ls) zero d lt e = inl (sym e)
 at-among u (l ∷ ls) (suc i) d lt e = inr (at-among u ls i d (omega arith) e)
 
-pub absent-among : (u : ℕ) (ls : List LiveLoader) → IsAbsent ls u → ¬ Among u (numbers_of ls)
+pub absent-among : (u : ℕ) (ls : List LiveLoader) → IsAbsent ls u
+    → ¬ Among u (numbers_of_loaders ls)
 absent-among u ls h m = by_all ls (λ k d lt. h.none k d lt) m
   where
     by_all : (ls : List LiveLoader) → ((k : ℕ) (d : LiveLoader) → k < length ls
-        → (get_or ls k d).number ≢ u) → ¬ Among u (numbers_of ls)
+        → (get_or ls k d).number ≢ u) → ¬ Among u (numbers_of_loaders ls)
     by_all [] h none = none
     by_all (l ∷ ls) h (inl e) = h 0 l (omega arith) (sym e)
     by_all (l ∷ ls) h (inr m) = by_all ls (λ k d lt. h (suc k) d (omega arith)) m

@@ -1,5 +1,5 @@
--- A loader's rows are gone over from the last one on, and those on one chunk are put on another.
--- For `Book::relocate`, `move_rows`.
+-- Following a loader's rows from the last one on, to put those on one chunk on another.
+-- For `LiveRows::apply_move`, `move_rows`.
 use Rattle.std.proofs.Common.{◌≡◌, ℕ, zero, suc, ◌+◌, ◌≤◌, Bool, true, false, cond, List, [], ◌∷◌}
 use Rattle.std.proofs.Common.{◌++◌, map, length, take, drop, set, get_or, Option, Some, None, refl}
 use Rattle.std.proofs.Common.{sym, ◌∙◌, ap, ap₂, subst, arith, take-append-drop, inl, inr}
@@ -38,7 +38,7 @@ get-drop (x ∷ xs) (suc n) j =
     let more : suc (n + j) ≡ suc n + j = omega arith in
     get-drop xs n j ∙ ap (slice_get (x ∷ xs)) more
 
--- what is behind a place, in two parts
+-- what follows a place, in two parts
 parted : {X : Type 0} (xs : List X) (j k : ℕ) → j ≤ k → drop j xs ≡ drop j (take k xs) ++ drop k xs
 parted xs zero k le = sym (take-append-drop k xs)
 parted [] (suc j) zero le = absurd (omega arith)
@@ -110,7 +110,7 @@ module _ {P : Type 0} where
             live = s.live;
           }) live) (behind is)
 
-  -- behind its last place a loader has none
+  -- after its last place a loader has no row
   pub none-after : (u : ℕ) (slots : List (BookSlot (Row P))) (i : ℕ) → last_place u slots ≡ Some i
       → last_place u (drop (suc i) slots) ≡ None
   none-after u [] i h = absurd (cc)
@@ -131,7 +131,7 @@ module _ {P : Type 0} where
 -- ---- the walk
 
 module _ {P : Type 0} where
-  -- the rows from a place on have moved, and next comes the loader's last one before it
+  -- the rows from a place on have moved, and the loader's last one before it is next
   pub record MovesOn (u : ℕ) (from to : Chunk) (old slots : List (BookSlot (Row P)))
       (next : Option ℕ) : Type 0 where
     pub k : ℕ

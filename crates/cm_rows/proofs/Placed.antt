@@ -1,5 +1,6 @@
--- A book's places, with a class more, a loader more, without a loader, and with a chunk moved.
--- For `Book+unit::copy_from`, `Book::add_loader`, `Book::define` and others.
+-- The places of live rows, with one more class, with one more loader, without a loader, and with a
+-- chunk moved.
+-- For `LiveRows+unit::copy_from`, `LiveRows::add_loader`, `LiveRows::define` and others.
 use Rattle.std.proofs.Common.{◌≡◌, ℕ, ◌+◌, ◌*◌, ◌<◌, ◌≤◌, true, false, List, [], ◌∷◌, ◌++◌, map}
 use Rattle.std.proofs.Common.{length, take, get_or, set, Option, Some, None, refl, sym, ◌∙◌, ap}
 use Rattle.std.proofs.Common.{subst, arith, length-append, length-set, length-take, vec_capacity}
@@ -23,8 +24,9 @@ use Rattle.cm_rows.specs.declared.live_loader.LastChunk.{LastChunk}
 use Rattle.cm_rows.specs.declared.loader_places.LoaderPlaces.{LoaderPlaces}
 use Rattle.cm_rows.specs.declared.row_places.RowPlaces.{RowPlaces}
 use Rattle.cm_rows.specs.Rows.{is_above}
-use Rattle.cm_rows.specs.Book.{IsBook}
-use Rattle.cm_rows.specs.Loaders.{numbers_of, IsAt, Rises, items, living_loader, ended_loader}
+use Rattle.cm_rows.specs.LiveRows.{AreRowsInPlace}
+use Rattle.cm_rows.specs.Loaders.{numbers_of_loaders, LoaderIsAt, Rises, items, living_loader}
+use Rattle.cm_rows.specs.Loaders.{ended_loader}
 use Rattle.cm_rows.specs.Loaders.{HasEnded, HasLoaders}
 use Rattle.cm_rows.specs.Links.{loader_in, last_place, last_places, AreLinked, AreOwned, HasLinks}
 use Rattle.cm_rows.proofs.KeptPlaces.{nobody, items-set, items-push, items-take, lives-set}
@@ -37,16 +39,16 @@ use Rattle.cm_rows.proofs.Linking.{places-unloaded, place-none, place-moved, pla
 use Rattle.cm_rows.proofs.Linking.{places-new, all-owned, all-fresh}
 
 numbers-below : (ls : List LiveLoader) (n : ℕ) → AllByRecursion (λ l. l.number < n) ls
-    → AllByRecursion (λ m. m < n) (numbers_of ls)
+    → AllByRecursion (λ m. m < n) (numbers_of_loaders ls)
 numbers-below [] n h = tt
 numbers-below (l ∷ ls) n h = (h.0, numbers-below ls n h.1)
 
 -- ---- the loaders' places
 
--- with another last chunk of one
+-- another last chunk of one loader
 pub loaders-set : (sizes : Sizes) (old new : LoaderPlaces) (rows more u i : ℕ)
     (o : Option LastChunk)
-    → HasLoaders sizes old rows → IsAt (items old.slots.items) u i
+    → HasLoaders sizes old rows → LoaderIsAt (items old.slots.items) u i
     → new.slots.items ≡ set old.slots.items i (living_loader u o)
     → vec_capacity old.slots ≤ vec_capacity new.slots → rows ≤ more → HasLoaders sizes new more
 loaders-set sizes old new rows more u i o h at is roomier le =
@@ -65,7 +67,7 @@ loaders-set sizes old new rows more u i o h at is roomier le =
       room = omega (arith, h.room);
     }
 
--- with one more
+-- one more loader
 pub loaders-push : (sizes : Sizes) (old new : LoaderPlaces) (rows more n : ℕ)
     → HasLoaders sizes old rows → AllByRecursion (λ l. l.number < n) (items old.slots.items)
     → new.slots.items ≡ old.slots.items ++ living_loader n None ∷ []
@@ -86,9 +88,9 @@ loaders-push sizes old new rows more n h below is roomier le =
       room = omega (arith, h.room);
     }
 
--- with one that lives no more
+-- one loader that is dead
 pub loaders-ended : (sizes : Sizes) (old new : LoaderPlaces) (rows more u i : ℕ)
-    → HasLoaders sizes old rows → IsAt (items old.slots.items) u i → HasEnded old i u new
+    → HasLoaders sizes old rows → LoaderIsAt (items old.slots.items) u i → HasEnded old i u new
     → vec_capacity old.slots ≤ vec_capacity new.slots → rows ≤ more → HasLoaders sizes new more
 loaders-ended sizes old new rows more u i h at e roomier le =
     let ls = old.slots.items in
@@ -117,14 +119,14 @@ module _ {P : Type 0} where
 
   -- each row's loader lives
   pub owned-rows : (sizes : Sizes) (rows : List (Row P)) (ls : List LiveLoader) (p : FreeSpace)
-      → IsBook sizes rows ls p → AreOwned rows ls
+      → AreRowsInPlace sizes rows ls p → AreOwned rows ls
   owned-rows sizes rows ls p h =
       subst (λ (ns : List ℕ). AllByRecursion (λ row. Among (loader_in row) ns) rows)
       (sym h.loaders.numbers) (all-owned rows (numbers_in rows) h.live.owned (λ n m. m))
 
-  -- no more loaders than rows
+  -- there are no more loaders than rows
   pub loaders-fewer : (sizes : Sizes) (rows : List (Row P)) (ls : List LiveLoader) (p : FreeSpace)
-      → IsBook sizes rows ls p → length ls ≤ length rows
+      → AreRowsInPlace sizes rows ls p → length ls ≤ length rows
   loaders-fewer sizes rows ls p h =
       omega (
         arith,
@@ -133,9 +135,9 @@ module _ {P : Type 0} where
         numbers-few rows,
       )
 
-  -- all loaders are below a number that is above theirs
+  -- all loaders' numbers are below a number that is above those of live ones
   pub loaders-below : (sizes : Sizes) (rows : List (Row P)) (ls : List LiveLoader) (p : FreeSpace)
-      (n : ℕ) → IsBook sizes rows ls p → is_above n rows ≡ true
+      (n : ℕ) → AreRowsInPlace sizes rows ls p → is_above n rows ≡ true
       → AllByRecursion (λ l. l.number < n) ls
   loaders-below sizes rows ls p n h above =
       all-numbers (λ m. m < n) ls
@@ -144,7 +146,7 @@ module _ {P : Type 0} where
   -- ---- the links
 
   pub last-at-place : (sizes : Sizes) (rows : RowPlaces P) (loaders : LoaderPlaces) (u i : ℕ)
-      (o : Option ℕ) → HasLinks sizes rows loaders → IsAt (items loaders.slots.items) u i
+      (o : Option ℕ) → HasLinks sizes rows loaders → LoaderIsAt (items loaders.slots.items) u i
       → get_or loaders.newest.items i o ≡ last_place u rows.slots.items
   last-at-place sizes rows loaders u i o h at =
       ap (λ l. get_or l i o) h.lasts
@@ -155,18 +157,18 @@ module _ {P : Type 0} where
       → HasLinks sizes rows loaders → length loaders.newest.items ≡ length loaders.slots.items
   as-many sizes rows loaders h =
       let ls = items loaders.slots.items in
-      ap length h.lasts ∙ length-map (numbers_of ls) (λ u. last_place u rows.slots.items)
+      ap length h.lasts ∙ length-map (numbers_of_loaders ls) (λ u. last_place u rows.slots.items)
       ∙ length-map ls (λ (l : LiveLoader). l.number)
       ∙ length-map loaders.slots.items (λ (s : BookSlot LiveLoader). s.item)
 
-  -- no less room than before
+  -- there is no less room than before
   pub record IsRoomier (old : RowPlaces P) (known : LoaderPlaces) (new : RowPlaces P)
       (left : LoaderPlaces) : Type 0 where
     pub slots : vec_capacity old.slots ≤ vec_capacity new.slots
     pub before : vec_capacity old.before ≤ vec_capacity new.before
     pub newest : vec_capacity known.newest ≤ vec_capacity left.newest
 
-  -- a class more, of the loader at this place
+  -- one more class, of the loader at this place
   pub record HasClass (old : RowPlaces P) (known : LoaderPlaces) (r : ClassRow) (k : P) (i : ℕ)
       (last : Option LastChunk) (new : RowPlaces P) (left : LoaderPlaces) : Type 0 where
     pub slots : new.slots.items ≡ old.slots.items ++ record { item = Class r k; live = true } ∷ []
@@ -177,7 +179,7 @@ module _ {P : Type 0} where
   pub links-class : (sizes : Sizes) (old new : RowPlaces P) (known left : LoaderPlaces)
       (r : ClassRow) (k : P) (i : ℕ) (o : Option LastChunk) → HasLinks sizes old known
       → length old.slots.items < 2 * row_limit sizes → Rises (items known.slots.items)
-      → IsAt (items known.slots.items) r.loader i → HasClass old known r k i o new left
+      → LoaderIsAt (items known.slots.items) r.loader i → HasClass old known r k i o new left
       → IsRoomier old known new left → HasLinks sizes new left
   links-class sizes old new known left r k i o h few rises at has more =
       let slots = old.slots.items in
@@ -200,7 +202,7 @@ module _ {P : Type 0} where
         newest_room = omega (arith, h.newest_room, more.newest);
       }
 
-  -- a loader more
+  -- one more loader
   pub record HasLoader (old : RowPlaces P) (known : LoaderPlaces) (r : LoaderRow)
       (new : RowPlaces P) (left : LoaderPlaces) : Type 0 where
     pub slots : new.slots.items ≡ old.slots.items ++ record { item = Loader r; live = true } ∷ []
@@ -208,16 +210,17 @@ module _ {P : Type 0} where
     pub loaders : left.slots.items ≡ known.slots.items ++ living_loader r.number None ∷ []
     pub newest : left.newest.items ≡ known.newest.items ++ Some (length old.slots.items) ∷ []
 
-  -- no row is of the new loader
+  -- no row belongs to the new loader
   none-there : (sizes : Sizes) (rows : List (Row P)) (ls : List LiveLoader) (p : FreeSpace)
-      (n : ℕ) → IsBook sizes rows ls p → is_above n rows ≡ true
+      (n : ℕ) → AreRowsInPlace sizes rows ls p → is_above n rows ≡ true
       → AllByRecursion (λ row. is_of n row ≡ false) rows
   none-there sizes rows ls p n b above =
-      all-fresh rows (numbers_of ls) n (owned-rows sizes rows ls p b)
+      all-fresh rows (numbers_of_loaders ls) n (owned-rows sizes rows ls p b)
       (subst (AllByRecursion (λ m. m < n)) (sym b.loaders.numbers) (above-all rows n above))
 
   pub links-loader : (sizes : Sizes) (rows : List (Row P)) (ls : List LiveLoader) (p : FreeSpace)
-      (old new : RowPlaces P) (known left : LoaderPlaces) (r : LoaderRow) → IsBook sizes rows ls p
+      (old new : RowPlaces P) (known left : LoaderPlaces) (r : LoaderRow)
+      → AreRowsInPlace sizes rows ls p
       → is_above r.number rows ≡ true → living old.slots.items ≡ rows
       → AllByRecursion (λ l. l.number < r.number) (items known.slots.items)
       → HasLinks sizes old known → length old.slots.items < 2 * row_limit sizes
@@ -230,7 +233,7 @@ module _ {P : Type 0} where
       (none-there sizes rows ls p r.number b above) in
       let linked = linked-push slots old.before.items s None h.linked
       (sym (place-none r.number slots fresh)) in
-      let numbers = numbers_of (items known.slots.items) in
+      let numbers = numbers_of_loaders (items known.slots.items) in
       let lasts = ap (λ os. os ++ Some (length slots) ∷ []) h.lasts
       ∙ places-new slots s numbers r.number refl refl
       (numbers-below (items known.slots.items) r.number under)
@@ -244,10 +247,11 @@ module _ {P : Type 0} where
         newest_room = omega (arith, h.newest_room, more.newest);
       }
 
-  -- without the rows of a loader, whose place is the same or gone
+  -- without the rows of a loader, whose place is the same or removed
   pub links-unloaded : (sizes : Sizes) (old new : RowPlaces P) (known left : LoaderPlaces)
       (u i : ℕ) → HasLinks sizes old known → Rises (items known.slots.items)
-      → IsAt (items known.slots.items) u i → new.slots.items ≡ map (unloaded u) old.slots.items
+      → LoaderIsAt (items known.slots.items) u i → new.slots.items
+      ≡ map (unloaded u) old.slots.items
       → AreLinked new.slots.items new.before.items → HasEnded known i u left
       → IsRoomier old known new left → HasLinks sizes new left
   links-unloaded sizes old new known left u i h rises at slots_are linked e more =
@@ -277,7 +281,7 @@ module _ {P : Type 0} where
         newest_room = omega (arith, h.newest_room, more.newest);
       }
 
-  -- a chunk moved, the last one of the loader at this place
+  -- a moved chunk, the last one of the loader at this place
   pub record HasMoved (old : RowPlaces P) (known : LoaderPlaces) (from to : Chunk) (u i : ℕ)
       (last : Option LastChunk) (new : RowPlaces P) (left : LoaderPlaces) : Type 0 where
     pub slots : new.slots.items ≡ map (moved_slot from to) old.slots.items
@@ -287,7 +291,7 @@ module _ {P : Type 0} where
 
   pub links-moved : (sizes : Sizes) (from to : Chunk) (old new : RowPlaces P)
       (known left : LoaderPlaces) (u i : ℕ) (o : Option LastChunk) → HasLinks sizes old known
-      → IsAt (items known.slots.items) u i → HasMoved old known from to u i o new left
+      → LoaderIsAt (items known.slots.items) u i → HasMoved old known from to u i o new left
       → IsRoomier old known new left → HasLinks sizes new left
   links-moved sizes from to old new known left u i o h at has more =
       let slots = old.slots.items in
@@ -295,7 +299,7 @@ module _ {P : Type 0} where
       let after = map (moved_slot from to) slots in
       let l : BookSlot LiveLoader = living_loader u o in
       let lasts = h.lasts
-      ∙ sym (places-same slots after (numbers_of ls) (λ v. place-moved from to v slots))
+      ∙ sym (places-same slots after (numbers_of_loaders ls) (λ v. place-moved from to v slots))
       ∙ ap (last_places after)
       (sym (numbers-set u o ls i nobody at.within (at.number_is nobody))) in
       record {

@@ -1,5 +1,5 @@
 -- Rows: their classes and loaders after each change.
--- For `Book::relocate`.
+-- For `LiveRows::apply_move`.
 use Rattle.std.proofs.Common.{◌≡◌, ℕ, ◌≤◌, Bool, true, false, cond, eqb, List, [], ◌∷◌, ◌++◌, map}
 use Rattle.std.proofs.Common.{length, Some, is_some, inl, inr, refl, sym, ap, arith}
 use Rattle.std.specs.Prelude.{not, filter}
@@ -111,7 +111,7 @@ module _ {P : Type 0} where
   numbers-few (Loader r ∷ rows) = omega (arith, numbers-few rows)
   numbers-few (Class r p ∷ rows) = omega (arith, numbers-few rows)
 
-  -- a loader is live whose number is one of theirs
+  -- a loader is live if its number is one of theirs
   pub live-among : (u : ℕ) (rows : List (Row P)) → Among u (numbers_in rows) → is_live u rows ≡ true
   live-among u [] none = absurd none
   live-among u (Loader r ∷ rows) m = by_test (live-among u rows) m (eqb r.number u) refl
@@ -136,7 +136,7 @@ module _ {P : Type 0} where
       by_test behind false e = behind
   among-live u (Class r p ∷ rows) n = among-live u rows n
 
-  -- ---- with nothing kept of a class
+  -- ---- rows with nothing kept of a class
 
   pub classes-bare : (rows : List (Row P)) → classes_in (bare rows) ≡ classes_in rows
   classes-bare [] = refl

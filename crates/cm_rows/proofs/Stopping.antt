@@ -1,6 +1,6 @@
--- A walk that moves a loader's rows, from the last one on, may stop once no words are left on their
--- chunk.
--- For `Book::relocate`, `move_rows`.
+-- A walk that moves a loader's rows, starting at the last one, may stop once no words are left on
+-- their chunk.
+-- For `LiveRows::apply_move`, `move_rows`.
 use Rattle.std.proofs.Common.{◌≡◌, ℕ, ◌+◌, ◌-◌, ◌≤◌, Bool, true, false, cond, List, [], ◌∷◌, ◌++◌}
 use Rattle.std.proofs.Common.{map, take, drop, get_or, Option, Some, None, refl, sym, ap, ap₂}
 use Rattle.std.proofs.Common.{subst, ◌∙◌, arith, take-append-drop}
@@ -15,7 +15,7 @@ use Rattle.cm_layout.specs.Rows.{kept_on, used_words, moved_row}
 use Rattle.cm_layout.proofs.{used-append}
 use Rattle.cm_index.specs.declared.slot.BookSlot.{BookSlot}
 use Rattle.cm_index.specs.Living.{living, moved_slot}
-use Rattle.cm_rows.specs.Links.{loader_in, AreOwnOn, GoesBack, rows_to, words_on}
+use Rattle.cm_rows.specs.Links.{loader_in, AreOwnOn, LinksBack, rows_to, words_on}
 use Rattle.cm_rows.proofs.Backward.{next-row, goes-before, front-last, nothing-left}
 use Rattle.cm_rows.proofs.Linking.{of-is}
 use Rattle.cm_rows.proofs.Moving.{MovesOn, comes-to}
@@ -30,9 +30,9 @@ module _ {P : Type 0} where
       by_test true e = rw e (omega arith)
       by_test false e = rw e refl
 
-  -- so many words are in use up to the row, its own among them
+  -- this many words are in use up to the row, its own among them
   used-to : (slots : List (BookSlot (Row P))) (before : List (Option ℕ)) (c : Chunk) (i used : ℕ)
-      → (g : GoesBack slots before c (Some i) used)
+      → (g : LinksBack slots before c (Some i) used)
       → used ≡ used_words c (living (take i slots))
       + words_on c (next-row slots before c i used g).row
   used-to slots before c i used g =
@@ -42,22 +42,22 @@ module _ {P : Type 0} where
       ∙ omega (arith, used-append c front (n.row ∷ []), used-row c n.row)
 
   pub words-less : (slots : List (BookSlot (Row P))) (before : List (Option ℕ)) (c : Chunk)
-      (i used : ℕ) → (g : GoesBack slots before c (Some i) used)
+      (i used : ℕ) → (g : LinksBack slots before c (Some i) used)
       → words_on c (next-row slots before c i used g).row ≤ used
   words-less slots before c i used g =
       let is = used-to slots before c i used g in omega (arith, is)
 
   -- the walk goes back to the row before it
   pub goes-back : (slots : List (BookSlot (Row P))) (before : List (Option ℕ)) (c : Chunk)
-      (i used : ℕ) → (g : GoesBack slots before c (Some i) used)
-      → GoesBack slots before c (get_or before i None)
+      (i used : ℕ) → (g : LinksBack slots before c (Some i) used)
+      → LinksBack slots before c (get_or before i None)
       (used - words_on c (next-row slots before c i used g).row)
   goes-back slots before c i used g =
       let n = next-row slots before c i used g in
       (goes-before slots before c (Some i) used i (words_on c n.row) n.row g n.there n.own
       (used-to slots before c i used g)).0
 
-  -- where nothing is kept on a chunk, no row moves
+  -- if nothing is kept on a chunk, no row moves
   none-on-moves : (from to : Chunk) (slots : List (BookSlot (Row P)))
       → kept_on from (living slots) ≡ [] → map (moved_slot from to) slots ≡ slots
   none-on-moves from to [] none = refl
@@ -89,10 +89,10 @@ module _ {P : Type 0} where
           ap (λ (l : List (BookSlot (Row P))). record { item = Loader r; live = true } ∷ l) (rest e)
       by_slot true (Class r p) rest e = by_chunk r p (same_chunk r.place.chunk from) rest e
 
-  -- the row that comes next is one of the loader's
+  -- the next row is one of the loader's
   one-loader : (u : ℕ) (from to : Chunk) (old slots : List (BookSlot (Row P)))
       (before : List (Option ℕ)) (i left : ℕ) → MovesOn u from to old slots (Some i)
-      → (g : GoesBack old before from (Some i) left) → g.loader ≡ u
+      → (g : LinksBack old before from (Some i) left) → g.loader ≡ u
   one-loader u from to old slots before i left m g =
       let c = comes-to u from to old slots i m in
       let n = next-row old before from i left g in
@@ -110,7 +110,7 @@ module _ {P : Type 0} where
   -- once no words are left, all rows have moved
   pub walk-stops : (u : ℕ) (from to : Chunk) (old slots : List (BookSlot (Row P)))
       (before : List (Option ℕ)) (i left : ℕ) → MovesOn u from to old slots (Some i)
-      → GoesBack old before from (Some i) left → left ≡ 0 → slots ≡ map (moved_slot from to) old
+      → LinksBack old before from (Some i) left → left ≡ 0 → slots ≡ map (moved_slot from to) old
   walk-stops u from to old slots before i left m g none =
       let f : BookSlot (Row P) → BookSlot (Row P) = moved_slot from to in
       let own : AreOwnOn u from old =

@@ -1,5 +1,5 @@
--- What the tests of the rules say of a book's rows.
--- For `Book::add_loader`, `Book::define`, `Book::is_live` and others.
+-- What the tests of the rules say about live rows.
+-- For `LiveRows::add_loader`, `LiveRows::define`, `LiveRows::is_live` and others.
 use Rattle.std.proofs.Common.{◌≡◌, ℕ, ◌+◌, ◌-◌, ◌%◌, ◌<◌, ◌≤◌, ◌↔◌, Bool, true, false, cond}
 use Rattle.std.proofs.Common.{eqb, List}
 use Rattle.std.proofs.Common.{[], ◌∷◌, length, get_or, Option, Some, None, inl, inr, refl, sym, ◌∙◌}
@@ -19,7 +19,7 @@ use Rattle.cm_pool.specs.Lists.{Among}
 use Rattle.cm_pool.proofs.{same_chunk-true, same_chunk-is, among-map, among-map_from}
 use Rattle.cm_layout.specs.declared.class_row.ClassRow.{ClassRow}
 use Rattle.cm_layout.specs.declared.loader_row.LoaderRow.{LoaderRow}
-use Rattle.cm_layout.specs.declared.relocation.Move.{Move}
+use Rattle.cm_layout.specs.declared.move_entry.Move.{Move}
 use Rattle.cm_layout.specs.declared.row.Row.{Row}
 use Rattle.cm_layout.specs.declared.row.Row.TheVariants.{Loader, Class}
 use Rattle.cm_layout.specs.Names.{is_loader_name, slots_of_name}
@@ -33,9 +33,9 @@ use Rattle.cm_layout.proofs.{meets-true}
 use Rattle.cm_rows.specs.declared.live_loader.LastChunk.{LastChunk}
 use Rattle.cm_rows.specs.declared.live_loader.LiveLoader.{LiveLoader}
 use Rattle.cm_rows.specs.Rows.{last_of, is_above}
-use Rattle.cm_rows.specs.Loaders.{IsAt, IsAbsent}
+use Rattle.cm_rows.specs.Loaders.{LoaderIsAt, IsAbsent}
 use Rattle.cm_rows.specs.Held.{first_chunks, AreFounded}
-use Rattle.cm_rows.specs.Book.{AreLoadersOf, AreLiveRows}
+use Rattle.cm_rows.specs.LiveRows.{AreLoadersOf, AreLiveRows}
 use Rattle.cm_rows.specs.Placing.{is_inside}
 use Rattle.cm_rows.proofs.Classes.{first-among}
 use Rattle.cm_rows.proofs.Loaders.{at-among, absent-among, last_in-at, last_in-absent}
@@ -76,7 +76,7 @@ module _ {P : Type 0} where
 
 module _ {P : Type 0} where
   pub live-at : (rows : List (Row P)) (ls : List LiveLoader) (u i : ℕ) → AreLoadersOf rows ls
-      → IsAt ls u i → is_live u rows ≡ true
+      → LoaderIsAt ls u i → is_live u rows ≡ true
   live-at rows ls u i h at =
       let d : LiveLoader = record { number = 0; last = None } in
       live-among u rows (subst
@@ -89,7 +89,7 @@ module _ {P : Type 0} where
 
   -- what is kept of a loader that is found
   pub last-at : (rows : List (Row P)) (ls : List LiveLoader) (u i : ℕ) (l : LiveLoader)
-      → AreLoadersOf rows ls → IsAt ls u i → l ≡ get_or ls i l → last_of u rows ≡ l.last
+      → AreLoadersOf rows ls → LoaderIsAt ls u i → l ≡ get_or ls i l → last_of u rows ≡ l.last
   last-at rows ls u i l h at is =
       sym (h.last u) ∙ last_in-at u ls i l h.rises.each at.within (at.number_is l) ∙ ap
       (λ (m : LiveLoader). m.last) (sym is)
@@ -215,7 +215,7 @@ module _ {P : Type 0} where
       apart d (subst
       (λ (x : Chunk). Among x (first_chunks (classes_in rows))) (sym r.2) (h.first r.0 r.1)))
 
-  -- a chunk is free that the region has and that no row uses
+  -- a chunk is free if the region has it and no row uses it
   pub free-unused : (sizes : Sizes) (rows : List (Row P)) (p : FreeSpace) (c : Chunk)
       → AreLiveRows sizes rows p → IsFreeChunk p c ↔ ((is_chunk sizes c ≡ true)
       × (is_unused c rows ≡ true))
@@ -229,7 +229,7 @@ module _ {P : Type 0} where
 -- ---- places
 
 module _ {P : Type 0} where
-  -- the place behind a loader's last record
+  -- the place after a loader's last record
   pub top-is : (rows : List (Row P)) (u n : ℕ) (c : Chunk)
       → ((is_last_chunk u c rows && eqb n (used_words c rows)) ≡ true)
       ↔ (last_of u rows ≡ Some (record { chunk = c; used = n }))
@@ -359,7 +359,7 @@ module _ {P : Type 0} where
       (has_room sizes rows (Loader r)) h).1 in
       leb-true (slots_of_rows rows + slots_of_name r.name) (row_limit sizes) last
 
-  -- where there is room for a loader, fewer rows live than can
+  -- if there is room for a loader, fewer rows live than can
   pub fewer-rows : (sizes : Sizes) (rows : List (Row P)) (x : List ℕ)
       → slots_of_rows rows + slots_of_name x ≤ row_limit sizes → length rows < row_limit sizes
   fewer-rows sizes rows x few = omega (arith, few, rows-within rows, (slots-name x).0)
@@ -492,7 +492,7 @@ module _ {P : Type 0} where
       move-is sizes rows e l last ∙ and-true (has_room_for sizes l e) (is_unused e.to rows) room
       ∙ ((free-unused sizes rows p e.to h).0 free).1
 
--- ---- numbers that go on
+-- ---- numbers that continue
 
 all-tested : (n : ℕ) (ns : List ℕ) → list_all (λ u. nat_lt u n) ns ≡ true → AllByRecursion
     (λ u. u < n) ns

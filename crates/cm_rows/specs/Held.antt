@@ -16,8 +16,8 @@ use Rattle.cm_layout.specs.Rows.{classes_in}
 use Rattle.cm_index.specs.declared.slot.BookSlot.{BookSlot}
 use Rattle.cm_rows.specs.declared.live_loader.LastChunk.{LastChunk}
 
--- the pool has all roots, and its free words are those of no chunk of these
-pub record Holds (sizes : Sizes) (pool : FreeSpace) (chunks : List Chunk) : Type 0 where
+-- the pool has all roots, and its free words are exactly those on none of these chunks
+pub record PoolHolds (sizes : Sizes) (pool : FreeSpace) (chunks : List Chunk) : Type 0 where
   pub geometry : pool.geometry ≡ sizes
   pub roots : pool.roots ≡ sizes.roots
   pub held : AreHeld pool chunks
@@ -28,20 +28,20 @@ pub record CanBeHeld (sizes : Sizes) (chunks : List Chunk) : Type 0 where
   pub each : AllByRecursion (IsChunk sizes) chunks
   pub apart : Pairwise (λ a b. ¬ Meets a b) chunks
 
--- the chunks of classes, each once: where its first record lies
+-- the chunks of classes, each once: by the first record on it
 abbrev pub first_chunks : List ClassRow → List Chunk
 first_chunks classes = map (λ r. r.place.chunk) (filter (λ r. r.place.offset == 0) classes)
 
 -- the chunks of rows
-abbrev pub chunks_of : {P : Type 0} → List (Row P) → List Chunk
-chunks_of rows = first_chunks (classes_in rows)
+abbrev pub chunks_of_rows : {P : Type 0} → List (Row P) → List Chunk
+chunks_of_rows rows = first_chunks (classes_in rows)
 
 -- the chunk of a row that is the first on it
 abbrev pub own_chunk : {P : Type 0} → Row P → Option Chunk
 own_chunk (Loader r) = None
 own_chunk (Class r p) = if r.place.offset == 0 then Some r.place.chunk else None
 
--- the same of a row that lives
+-- the same for a row, if it lives
 abbrev pub living_chunk : {P : Type 0} → BookSlot (Row P) → Option Chunk
 living_chunk s = if s.live then own_chunk s.item else None
 
@@ -52,8 +52,8 @@ pub record AreFounded (classes : List ClassRow) : Type 0 where
   pub owner : (r s : ClassRow) → Among r classes → Among s classes
       → r.place.chunk ≡ s.place.chunk → r.loader ≡ s.loader
 
--- a record's place is on the top of a loader's last chunk, or at the front of a free one, which is
--- taken then
+-- the place of a record is after the last record on its loader's last chunk, or at the front of a
+-- free chunk, which is then taken
 pub record IsTop (last : Option LastChunk) (place : Place) : Type 0 where
   pub is_top : last ≡ Some (record { chunk = place.chunk; used = place.offset })
 
@@ -65,7 +65,7 @@ abbrev pub TakesPlace : Option LastChunk → Place → FreeSpace → FreeSpace �
 TakesPlace last place old new = (IsTop last place × (new ≡ old)) ⊎ (IsFront place old
     × (new ≡ without old place.chunk))
 
--- it is neither
+-- the place is neither
 pub record HasNoPlace (last : Option LastChunk) (place : Place) (old new : FreeSpace) : Type 0 where
   pub not_top : ¬ IsTop last place
   pub not_front : ¬ IsFront place old

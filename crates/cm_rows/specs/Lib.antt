@@ -4,4 +4,4 @@ pub mod Links
 pub mod Places
 pub mod Held
 pub mod Placing
-pub mod Book
+pub mod LiveRows

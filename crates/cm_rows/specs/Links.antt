@@ -1,4 +1,4 @@
--- How the places of a loader's rows lead to one another: each to the one before it.
+-- How the places of a loader's rows are linked: each to the one before it.
 use Rattle.std.specs.Prelude.{◌≡◌, ◌<◌, ◌≤◌, ◌+◌, ◌*◌, ◌&&◌, ℕ, suc, Bool, true, false, Option}
 use Rattle.std.specs.Prelude.{Some, None, List, [], ◌∷◌, ◌++◌, map, take, drop, length, get_or}
 use Rattle.std.specs.Prelude.{if◌then◌else◌, vec_capacity}
@@ -17,28 +17,29 @@ use Rattle.cm_index.specs.Living.{living}
 use Rattle.cm_rows.specs.declared.live_loader.LiveLoader.{LiveLoader}
 use Rattle.cm_rows.specs.declared.loader_places.LoaderPlaces.{LoaderPlaces}
 use Rattle.cm_rows.specs.declared.row_places.RowPlaces.{RowPlaces}
-use Rattle.cm_rows.specs.Loaders.{numbers_of, items}
+use Rattle.cm_rows.specs.Loaders.{numbers_of_loaders, items}
 
--- the number of the loader whose row it is: its own, or one of its classes
+-- the number of the loader that a row belongs to: its own, or that of its class's loader
 abbrev pub loader_in : {P : Type 0} → Row P → ℕ
 loader_in (Loader r) = r.number
 loader_in (Class r p) = r.loader
 
 -- each row's loader is one of these
 abbrev pub AreOwned : {P : Type 0} → List (Row P) → List LiveLoader → Type 0
-AreOwned rows loaders = AllByRecursion (λ row. Among (loader_in row) (numbers_of loaders)) rows
+AreOwned rows loaders =
+    AllByRecursion (λ row. Among (loader_in row) (numbers_of_loaders loaders)) rows
 
--- a place in the places behind the first, or else the first where that is one
+-- a place among the places after the first; or else the first, if `t` says so
 abbrev pub place_behind : Option ℕ → Bool → Option ℕ
 place_behind (Some i) t = Some (suc i)
 place_behind None t = if t then Some 0 else None
 
--- where the last living row of a loader stands
+-- where the last live row of a loader is
 abbrev pub last_place : {P : Type 0} → ℕ → List (BookSlot (Row P)) → Option ℕ
 last_place u [] = None
 last_place u (s ∷ slots) = place_behind (last_place u slots) (s.live && is_of u s.item)
 
--- beside each place of a living row stands that of the living row of its loader before it
+-- for each place of a live row, `before` has the place of its loader's live row before it
 pub record AreLinked {P : Type 0} (slots : List (BookSlot (Row P)))
     (before : List (Option ℕ)) : Type 0 where
   pub same : length before ≡ length slots
@@ -49,17 +50,17 @@ pub record AreLinked {P : Type 0} (slots : List (BookSlot (Row P)))
 abbrev pub last_places : {P : Type 0} → List (BookSlot (Row P)) → List ℕ → List (Option ℕ)
 last_places slots numbers = map (λ u. last_place u slots) numbers
 
--- where a chunk's records move, no other loader's row does
+-- if a chunk's records move, no other loader's row does
 pub record OthersStay {P : Type 0} (u : ℕ) (from to : Chunk)
     (slots : List (BookSlot (Row P))) : Type 0 where
   pub each : (i : ℕ) (s : BookSlot (Row P)) → slice_get slots i ≡ Some s → s.live ≡ true
       → is_of u s.item ≡ false → moved_row from to s.item ≡ s.item
 
--- a place whose row lives no more
+-- a place whose row is dead
 abbrev pub ended : {P : Type 0} → BookSlot (Row P) → BookSlot (Row P)
 ended s = record { item = s.item; live = false }
 
--- the next living row from a place on stands here
+-- the next live row from a place on is here
 pub record ComesNext {X : Type 0} (slots : List (BookSlot X)) (from place : ℕ) : Type 0 where
   pub within : place < length slots
   pub is : (d : BookSlot X) → living (drop from slots)
@@ -75,21 +76,21 @@ abbrev pub words_on : {P : Type 0} → Chunk → Row P → ℕ
 words_on c (Loader r) = 0
 words_on c (Class r p) = if same_chunk r.place.chunk c then r.place.words else 0
 
--- each living row on the chunk is one of the loader's
+-- each live row on the chunk belongs to the loader
 abbrev pub AreOwnOn : {P : Type 0} → ℕ → Chunk → List (BookSlot (Row P)) → Type 0
 AreOwnOn u c slots =
     (r : ClassRow) → Among r (classes_in (living slots)) → r.place.chunk ≡ c → r.loader ≡ u
 
--- how many places a walk still goes over at most
+-- how many places a walk still visits at most
 abbrev pub places_left : Option ℕ → ℕ
 places_left None = 0
 places_left (Some i) = suc i
 
--- the living rows up to a place, or none
+-- the live rows up to a place, or none
 abbrev pub rows_to : {P : Type 0} → Option ℕ → List (BookSlot (Row P)) → List (Row P)
 rows_to place slots = living (take (places_left place) slots)
 
--- Back from a place, the next living row on the chunk stands here.
+-- Backwards from a place, the next live row on the chunk is here.
 pub record ComesBack {P : Type 0} (c : Chunk) (slots : List (BookSlot (Row P)))
     (from : Option ℕ) (place : ℕ) : Type 0 where
   pub row : ClassRow
@@ -100,9 +101,9 @@ pub record ComesBack {P : Type 0} (c : Chunk) (slots : List (BookSlot (Row P)))
   pub words : used_words c (rows_to from slots)
       ≡ used_words c (living (take place slots)) + row.place.words
 
--- A walk back over a loader's rows comes to this place next, and so many words of the chunk are in
--- use up to there.
-pub record GoesBack {P : Type 0} (slots : List (BookSlot (Row P))) (before : List (Option ℕ))
+-- A walk backwards over a loader's rows visits this place next, and the rows up to it use `used`
+-- words of the chunk.
+pub record LinksBack {P : Type 0} (slots : List (BookSlot (Row P))) (before : List (Option ℕ))
     (c : Chunk) (next : Option ℕ) (used : ℕ) : Type 0 where
   pub loader : ℕ
   pub behind : ℕ
@@ -117,7 +118,7 @@ pub record HasLinks {P : Type 0} (sizes : Sizes) (rows : RowPlaces P)
     (loaders : LoaderPlaces) : Type 0 where
   pub linked : AreLinked rows.slots.items rows.before.items
   pub lasts : loaders.newest.items
-      ≡ last_places rows.slots.items (numbers_of (items loaders.slots.items))
+      ≡ last_places rows.slots.items (numbers_of_loaders (items loaders.slots.items))
   pub few : length rows.slots.items ≤ 2 * row_limit sizes
   pub room : 2 * row_limit sizes ≤ vec_capacity rows.slots
   pub before_room : 2 * row_limit sizes ≤ vec_capacity rows.before

@@ -1,4 +1,4 @@
--- The loaders as a list that rises by number, with those between them that live no more.
+-- The loaders as a list sorted by number, with dead ones between them.
 use Rattle.std.specs.Prelude.{◌≡◌, ◌≢◌, ◌<◌, ◌≤◌, ◌==◌, ◌+◌, ◌*◌, ℕ, true, false, Option, None}
 use Rattle.std.specs.Prelude.{List, [], ◌∷◌, length, map, take, drop, slice_set, vec_capacity}
 use Rattle.std.specs.Prelude.{if◌then◌else◌}
@@ -12,15 +12,15 @@ use Rattle.cm_rows.specs.declared.live_loader.LastChunk.{LastChunk}
 use Rattle.cm_rows.specs.declared.live_loader.LiveLoader.{LiveLoader}
 use Rattle.cm_rows.specs.declared.loader_places.LoaderPlaces.{LoaderPlaces}
 
-abbrev pub numbers_of : List LiveLoader → List ℕ
-numbers_of loaders = map (λ l. l.number) loaders
+abbrev pub numbers_of_loaders : List LiveLoader → List ℕ
+numbers_of_loaders loaders = map (λ l. l.number) loaders
 
--- each number is below those behind it
+-- each number is below those after it
 pub record Rises (loaders : List LiveLoader) : Type 0 where
   pub each : Pairwise (λ a b. a.number < b.number) loaders
 
--- the loader of this number stands at this place
-pub record IsAt (loaders : List LiveLoader) (number place : ℕ) : Type 0 where
+-- the loader of this number is at this place
+pub record LoaderIsAt (loaders : List LiveLoader) (number place : ℕ) : Type 0 where
   pub within : place < length loaders
   pub number_is : HoldsAt (λ l. l.number ≡ number) loaders place
 
@@ -33,41 +33,41 @@ abbrev pub last_in : ℕ → List LiveLoader → Option LastChunk
 last_in u [] = None
 last_in u (l ∷ loaders) = if l.number == u then l.last else last_in u loaders
 
--- what stands at places, whether it lives or not
+-- the items at places, live or dead
 abbrev pub items : {X : Type 0} → List (BookSlot X) → List X
 items slots = map (λ s. s.item) slots
 
--- the loader of this number stands at this place, and lives
-pub record IsKept (loaders : List (BookSlot LiveLoader)) (number place : ℕ) : Type 0 where
-  pub at : IsAt (items loaders) number place
+-- the loader of this number is at this place, and lives
+pub record LoaderLivesAt (loaders : List (BookSlot LiveLoader)) (number place : ℕ) : Type 0 where
+  pub at : LoaderIsAt (items loaders) number place
   pub lives : LivesAt loaders place
 
--- those from this place on live no more, and the one before it does
+-- those from this place on are dead, and the one before it lives
 pub record IsLivingEnd (loaders : List (BookSlot LiveLoader)) (place : ℕ) : Type 0 where
   pub within : place ≤ length loaders
   pub behind : AllByRecursion (λ s. s.live ≡ false) (drop place loaders)
   pub last : (k : ℕ) → place ≡ k + 1 → LivesAt loaders k
 
--- the place of a loader that lives, with its last chunk, and of one that lives no more
+-- the place of a live loader, with its last chunk, and the place of a dead one
 abbrev pub living_loader : ℕ → Option LastChunk → BookSlot LiveLoader
 living_loader number last = record { item = record { number = number; last = last }; live = true }
 
 abbrev pub ended_loader : ℕ → BookSlot LiveLoader
 ended_loader number = record { item = record { number = number; last = None }; live = false }
 
--- the one at this place lives no more
+-- the loader at this place is dead
 abbrev pub with_end : List (BookSlot LiveLoader) → ℕ → ℕ → List (BookSlot LiveLoader)
 with_end loaders at number = slice_set loaders at (ended_loader number)
 
--- and those at the end are taken out that don't
+-- the loader at this place is dead, and dead ones at the end are removed
 pub record HasEnded (old : LoaderPlaces) (at number : ℕ) (new : LoaderPlaces) : Type 0 where
   pub count : ℕ
   pub is_end : IsLivingEnd (with_end old.slots.items at number) count
   pub slots_are : new.slots.items ≡ take count (with_end old.slots.items at number)
   pub newest_are : new.newest.items ≡ take count (slice_set old.newest.items at None)
 
--- the places of loaders rise by number, the last one lives, and there is room for as many as for
--- rows
+-- the places of loaders are sorted by number, the last one lives, and there is room for as many as
+-- for rows
 pub record HasLoaders (sizes : Sizes) (loaders : LoaderPlaces) (rows : ℕ) : Type 0 where
   pub rises : Rises (items loaders.slots.items)
   pub last : (k : ℕ) → length loaders.slots.items ≡ k + 1 → LivesAt loaders.slots.items k

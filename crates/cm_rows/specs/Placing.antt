@@ -1,4 +1,4 @@
--- Where a class's place is taken beside the loaders that a book keeps, or what its row breaks.
+-- Where a class's place is taken, given the loaders of live rows, or which rule its row breaks.
 use Rattle.std.specs.Prelude.{◌≡◌, ◌⊎◌, ◌<◌, ◌≤◌, ◌+◌, ◌&&◌, ℕ, Bool, true, false, List, get_or}
 use Rattle.std.specs.Prelude.{nat_le}
 use Rattle.cm_pool.specs.Chunks.{chunk_size}
@@ -11,23 +11,23 @@ use Rattle.cm_layout.specs.Rules.{is_chunk, row_limit}
 use Rattle.cm_index.specs.declared.slot.BookSlot.{BookSlot}
 use Rattle.cm_index.specs.Living.{living}
 use Rattle.cm_rows.specs.declared.live_loader.LiveLoader.{LiveLoader}
-use Rattle.cm_rows.specs.Loaders.{IsAbsent, IsKept}
+use Rattle.cm_rows.specs.Loaders.{IsAbsent, LoaderLivesAt}
 use Rattle.cm_rows.specs.Held.{TakesPlace, HasNoPlace}
 
--- the tests of a place that no other row has a part in
+-- the tests of a place that concern no other row
 abbrev pub is_inside : Sizes → ClassRow → Bool
 is_inside sizes r = is_chunk sizes r.place.chunk && nat_le 1 r.place.words
     && nat_le (r.place.offset + r.place.words) (chunk_size r.place.chunk.order)
 
--- beside rows that take so many slots there is room for one more, and its loader lives, at this
+-- beside rows that take `taken` slots there is room for one more, and its loader lives, at this
 -- place
 pub record MayCome (sizes : Sizes) (taken : ℕ) (loaders : List (BookSlot LiveLoader)) (r : ClassRow)
     (at : ℕ) (slot : BookSlot LiveLoader) : Type 0 where
   pub few : taken < row_limit sizes
-  pub kept : IsKept loaders r.loader at
+  pub kept : LoaderLivesAt loaders r.loader at
   pub slot_is : slot ≡ get_or loaders at slot
 
--- its place is taken
+-- the place of its record is taken
 pub record IsPlaced (sizes : Sizes) (taken : ℕ) (loaders : List (BookSlot LiveLoader))
     (r : ClassRow)
     (old new : FreeSpace) : Type 0 where
@@ -37,7 +37,7 @@ pub record IsPlaced (sizes : Sizes) (taken : ℕ) (loaders : List (BookSlot Live
   pub inside : is_inside sizes r ≡ true
   pub takes : TakesPlace slot.item.last r.place old new
 
--- it has no place
+-- its record has no place
 pub record IsUnplaced (sizes : Sizes) (taken : ℕ) (loaders : List (BookSlot LiveLoader))
     (r : ClassRow)
     (old new : FreeSpace) : Type 0 where
@@ -47,9 +47,9 @@ pub record IsUnplaced (sizes : Sizes) (taken : ℕ) (loaders : List (BookSlot Li
   pub why : (is_inside sizes r ≡ false)
       ⊎ ((is_inside sizes r ≡ true) × HasNoPlace slot.item.last r.place old new)
 
--- the first rule that it breaks
-abbrev pub Breaks : Sizes → ℕ → List (BookSlot LiveLoader) → ClassRow → FreeSpace → FreeSpace
+-- the first rule that the row breaks
+abbrev pub Breaches : Sizes → ℕ → List (BookSlot LiveLoader) → ClassRow → FreeSpace → FreeSpace
     → EntryRule → Type 0
-Breaks sizes taken loaders r old new OnRows =
+Breaches sizes taken loaders r old new OnRows =
     IsAbsent (living loaders) r.loader ⊎ (row_limit sizes ≤ taken)
-Breaks sizes taken loaders r old new OnChunks = IsUnplaced sizes taken loaders r old new
+Breaches sizes taken loaders r old new OnChunks = IsUnplaced sizes taken loaders r old new

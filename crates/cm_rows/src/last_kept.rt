@@ -2,7 +2,7 @@
 
 ghost use Rattle.std.specs.Prelude.{◌≡◌, ◌<◌, ◌++◌, ◌∷◌, [], MatchOption, IfSome, length};
 ghost use Rattle.cm_layout.specs.Rows.{kept_on};
-ghost use Rattle.cm_rows.specs.Links.{is_on, rows_to, ComesBack, GoesBack, AreLinked};
+ghost use Rattle.cm_rows.specs.Links.{is_on, rows_to, ComesBack, LinksBack, AreLinked};
 
 use crate::live_loader::LastChunk;
 use cm_index::BookSlot;
@@ -10,11 +10,11 @@ use cm_layout::Row;
 use cm_pool::Chunk;
 use std::marker::Model;
 
-/// What is kept of the classes on a loader's last chunk, from the newest back. Contracts see the
-/// list of what is left, in the order of the rows.
+/// What is kept of the classes on a loader's last chunk, from the newest back to the oldest.
+/// Contracts see the list of what is left, in the order of the rows.
 ///
 /// The rows are found by their links, and only as many as make up the words in use on the chunk: no
-/// other row of the loader is looked at.
+/// other row of the loader is read.
 #[derive(Drop)]
 pub struct LastKept<'a, P> {
     slots: &'a [BookSlot<Row<P>>],
@@ -26,24 +26,24 @@ pub struct LastKept<'a, P> {
 impl<'a, P> Model for LastKept<'a, P> {
     ghost use Rattle.std.specs.Prelude.{List};
     ghost use Rattle.cm_layout.specs.Rows.{kept_on};
-    ghost use Rattle.cm_rows.specs.Links.{rows_to, GoesBack};
+    ghost use Rattle.cm_rows.specs.Links.{rows_to, LinksBack};
 
     ghost Value = { List P };
 
     ghost view = { λ k. kept_on k.left.chunk (rows_to k.next k.slots.now) };
 
-    ghost invariant = { λ k. GoesBack k.slots.now k.before.now k.left.chunk k.next k.left.used };
+    ghost invariant = { λ k. LinksBack k.slots.now k.before.now k.left.chunk k.next k.left.used };
 }
 
 impl<'a, P> LastKept<'a, P> {
-    /// All of it, where the loader's newest row stands here.
+    /// All that is kept there, given where the loader's newest row is.
     pub(crate) fn from_newest(
         slots: &'a [BookSlot<Row<P>>],
         before: &'a [Option<u32>],
         newest: Option<u32>,
         last: LastChunk,
     ) -> LastKept<'a, P>
-        requires { GoesBack slots.now before.now last.chunk newest last.used }
+        requires { LinksBack slots.now before.now last.chunk newest last.used }
         ensures { result ≡ kept_on last.chunk (rows_to newest slots.now) }
     {
         LastKept {
@@ -54,7 +54,7 @@ impl<'a, P> LastKept<'a, P> {
         }
     }
 
-    /// What is kept of the newest class that is left, or `None` where none is.
+    /// What is kept of the newest class that is left, or `None` if none is left.
     pub fn next(&mut self) -> Option<&'a P>
         ensures { MatchOption result (self.old ≡ [])
             (λ kept. self.old ≡ self.new ++ kept.now ∷ []) }
@@ -82,14 +82,14 @@ fn is_on<P>(row: &Row<P>, chunk: &Chunk) -> bool
     }
 }
 
-// Where the newest row on a chunk stands, from a row of its loader's back.
+// Where the newest row on a chunk is, from a row of its loader backwards.
 fn newest_on<P>(
     slots: &[BookSlot<Row<P>>],
     before: &[Option<u32>],
     from: Option<u32>,
     last: LastChunk,
 ) -> Option<usize>
-    requires { GoesBack slots.now before.now last.chunk from last.used }
+    requires { LinksBack slots.now before.now last.chunk from last.used }
     ensures found { MatchOption result (kept_on last.chunk (rows_to from slots.now) ≡ [])
         (ComesBack last.chunk slots.now from) }
     ensures within { IfSome result (λ at. at < length slots.now) }

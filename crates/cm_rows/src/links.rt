@@ -1,4 +1,4 @@
-//! The links of places, by which a loader's rows are found from its last one.
+//! The links of places, by which a loader's rows are found, starting at its last one.
 
 ghost use Rattle.std.specs.Prelude.{◌≡◌, ◌<◌, ◌≤◌, ◌+◌, ◌^◌, ◌*◌, ◌++◌, ◌∷◌, [], Some, None};
 ghost use Rattle.std.specs.Prelude.{true, length, map, get_or, slice_set, vec_len, vec_capacity};
@@ -6,11 +6,11 @@ ghost use Rattle.std.specs.List.{AllByRecursion};
 ghost use Rattle.cm_pool.specs.Geometry.{IsGeometry};
 ghost use Rattle.cm_index.specs.Index.{LivesAt};
 ghost use Rattle.cm_index.specs.Living.{living, swept, unloaded, moved_slot};
-ghost use Rattle.cm_rows.specs.Book.{AreIndexed};
-ghost use Rattle.cm_rows.specs.Held.{Holds, chunks_of};
+ghost use Rattle.cm_rows.specs.LiveRows.{AreIndexed};
+ghost use Rattle.cm_rows.specs.Held.{PoolHolds, chunks_of_rows};
 ghost use Rattle.cm_rows.specs.Links.{loader_in, last_place, last_places, AreLinked, HasLinks};
-ghost use Rattle.cm_rows.specs.Links.{AreOwned, GoesBack, OthersStay, ended};
-ghost use Rattle.cm_rows.specs.Loaders.{Rises, numbers_of, items, HasLoaders};
+ghost use Rattle.cm_rows.specs.Links.{AreOwned, LinksBack, OthersStay, ended};
+ghost use Rattle.cm_rows.specs.Loaders.{Rises, numbers_of_loaders, items, HasLoaders};
 ghost use Rattle.cm_layout.specs.Rows.{slots_of_row, slots_of_rows};
 ghost use Rattle.cm_layout.specs.Rules.{row_limit as row_limit_of};
 
@@ -22,7 +22,7 @@ use cm_index::{BookSlot, Kept, sweep_index};
 use cm_layout::{Row, row_limit};
 use cm_pool::{Chunk, Geometry, Pool};
 
-/// Links the place that comes next to the last one of its row's loader, and is the last one then.
+/// Links the next place to the last one of its row's loader, and makes it the last one.
 pub fn link(before: &mut Vec<Option<u32>>, newest: &mut Vec<Option<u32>>, loader: usize, place: u32)
     requires within { loader < vec_len newest.old }
     requires room { vec_len before.old < vec_capacity before.old }
@@ -36,7 +36,7 @@ pub fn link(before: &mut Vec<Option<u32>>, newest: &mut Vec<Option<u32>>, loader
     newest[loader] = Some(place);
 }
 
-/// How many rows went with a loader, and how many slots they took as live rows.
+/// How many rows were removed with a loader, and how many slots they took as live rows.
 #[derive(Clone, Copy, Debug)]
 pub struct Gone {
     pub rows: usize,
@@ -53,10 +53,11 @@ pub fn unload_rows<P>(
 ) -> Gone
     requires linked { AreLinked slots.old.items before.now }
     requires newest { newest ≡ last_place loader slots.old.items }
-    requires holds { Holds pool.old.geometry pool.old (chunks_of (living slots.old.items)) }
+    requires holds { PoolHolds pool.old.geometry pool.old
+        (chunks_of_rows (living slots.old.items)) }
     ensures slots { slots.new.items ≡ map (unloaded loader) slots.old.items }
     ensures linked { AreLinked slots.new.items before.now }
-    ensures holds { Holds pool.old.geometry pool.new (chunks_of (living slots.new.items)) }
+    ensures holds { PoolHolds pool.old.geometry pool.new (chunks_of_rows (living slots.new.items)) }
     ensures rows { length (living slots.new.items) + result.rows ≡ length (living slots.old.items) }
     ensures taken { slots_of_rows (living slots.new.items) + result.slots
         ≡ slots_of_rows (living slots.old.items) }
@@ -76,17 +77,18 @@ pub fn unload_rows<P>(
     }
 }
 
-// Ends a row, and gives its chunk back to the pool where it is the first record there. Says how
-// many slots the row took.
+// Ends a row, and gives its chunk back to the pool if the row's record is the first there. Returns
+// how many slots the row took.
 fn end_row<P>(slots: &mut Vec<BookSlot<Row<P>>>, at: usize, pool: &mut Pool) -> usize
     requires within { at < vec_len slots.old }
     requires lives { LivesAt slots.old.items at }
-    requires holds { Holds pool.old.geometry pool.old (chunks_of (living slots.old.items)) }
+    requires holds { PoolHolds pool.old.geometry pool.old
+        (chunks_of_rows (living slots.old.items)) }
     ensures slots { (d : BookSlot (Row P)) → slots.new.items
         ≡ slice_set slots.old.items at (ended (get_or slots.old.items at d)) }
     ensures taken { (d : BookSlot (Row P)) → result
         ≡ slots_of_row (get_or slots.old.items at d).item }
-    ensures holds { Holds pool.old.geometry pool.new (chunks_of (living slots.new.items)) }
+    ensures holds { PoolHolds pool.old.geometry pool.new (chunks_of_rows (living slots.new.items)) }
     ensures capacity { vec_capacity slots.new ≡ vec_capacity slots.old }
 {
     let chunk = own_chunk(&slots[at].item);
@@ -98,8 +100,8 @@ fn end_row<P>(slots: &mut Vec<BookSlot<Row<P>>>, at: usize, pool: &mut Pool) -> 
     taken
 }
 
-/// Lets the records on a loader's last chunk lie on another. Goes over the loader's rows from its
-/// last one on, and only as far as records lie on the chunk.
+/// Moves the records on a loader's last chunk to another. Follows the loader's rows from its last
+/// one on, and only as far as there are records on the chunk.
 pub fn move_rows<P>(
     slots: &mut Vec<BookSlot<Row<P>>>,
     before: &[Option<u32>],
@@ -109,7 +111,7 @@ pub fn move_rows<P>(
     to: Chunk,
 )
     requires newest { newest ≡ last_place loader slots.old.items }
-    requires goes { GoesBack slots.old.items before.now last.chunk newest last.used }
+    requires goes { LinksBack slots.old.items before.now last.chunk newest last.used }
     requires others { OthersStay loader last.chunk to slots.old.items }
     ensures slots { slots.new.items ≡ map (moved_slot last.chunk to) slots.old.items }
     ensures capacity { vec_capacity slots.new ≡ vec_capacity slots.old }
@@ -126,7 +128,7 @@ pub fn move_rows<P>(
     }
 }
 
-// The number of the loader whose row it is.
+// The number of the loader that a row belongs to.
 fn loader_in<P>(row: &Row<P>) -> u64
     ensures { result ≡ loader_in row.now }
 {
@@ -136,7 +138,7 @@ fn loader_in<P>(row: &Row<P>) -> u64
     }
 }
 
-// No place for each loader.
+// No place for any loader.
 fn no_places(newest: &mut Vec<Option<u32>>, loaders: &[BookSlot<LiveLoader>])
     requires { length loaders.now ≤ vec_capacity newest.old }
     ensures newest { newest.new.items ≡ map (λ l. None) loaders.now }
@@ -148,7 +150,7 @@ fn no_places(newest: &mut Vec<Option<u32>>, loaders: &[BookSlot<LiveLoader>])
     }
 }
 
-/// Puts a place behind the others, where there is room for it.
+/// Appends a place to the others, if there is room for it.
 pub fn push_place(places: &mut Vec<Option<u32>>, place: Option<u32>)
     requires { vec_len places.old < vec_capacity places.old }
     ensures places { places.new.items ≡ places.old.items ++ place ∷ [] }
@@ -157,7 +159,7 @@ pub fn push_place(places: &mut Vec<Option<u32>>, place: Option<u32>)
     places.push(place).unwrap();
 }
 
-/// Links places anew whose rows all live.
+/// Links places again, whose rows all live.
 pub fn relink<P>(
     before: &mut Vec<Option<u32>>,
     newest: &mut Vec<Option<u32>>,
@@ -171,7 +173,8 @@ pub fn relink<P>(
     requires room { length slots.now ≤ vec_capacity before.old }
     requires newest_room { length loaders.now ≤ vec_capacity newest.old }
     ensures linked { AreLinked slots.now before.new.items }
-    ensures newest { newest.new.items ≡ last_places slots.now (numbers_of (items loaders.now)) }
+    ensures newest { newest.new.items
+        ≡ last_places slots.now (numbers_of_loaders (items loaders.now)) }
     ensures capacity { vec_capacity before.old ≤ vec_capacity before.new }
     ensures newest_capacity { vec_capacity newest.old ≤ vec_capacity newest.new }
 {
@@ -183,7 +186,7 @@ pub fn relink<P>(
     }
 }
 
-// Takes out what lives no more.
+// Removes dead items.
 fn sweep<T: Drop>(slots: &mut Vec<BookSlot<T>>)
     ensures slots { slots.new.items ≡ swept slots.old.items }
     ensures capacity { vec_capacity slots.new ≡ vec_capacity slots.old }
@@ -191,8 +194,7 @@ fn sweep<T: Drop>(slots: &mut Vec<BookSlot<T>>)
     slots.retain(|slot| slot.live);
 }
 
-/// Where twice as many places are taken as rows can live, sweeps out the rows and the loaders that
-/// live no more.
+/// If twice as many places are taken as rows can live, sweeps out dead rows and loaders.
 pub fn make_room<P: Kept>(geometry: Geometry, rows: &mut RowPlaces<P>, loaders: &mut LoaderPlaces)
     requires lawful { IsGeometry geometry }
     requires few { length (living rows.old.slots.items) < row_limit_of geometry }

@@ -1,10 +1,11 @@
-//! The loaders, rising by number, each with its last chunk. One that lives no more keeps its place
-//! until the last one ends or all such are swept out, so no unload moves the others.
+//! The loaders, sorted by number, each with its last chunk. A dead one keeps its place until the
+//! last one ends or all such are swept out, so that no unload moves the others.
 
 ghost use Rattle.std.specs.Prelude.{◌≡◌, ◌<◌, ◌≤◌, IfSome, IfNone, Some, [], ◌∷◌, ◌++◌, ◌+◌};
 ghost use Rattle.std.specs.Prelude.{length, slice_set, vec_len, vec_capacity, true};
 ghost use Rattle.cm_index.specs.Living.{living, swept};
-ghost use Rattle.cm_rows.specs.Loaders.{Rises, IsAt, IsAbsent, items, IsKept, IsLivingEnd};
+ghost use Rattle.cm_rows.specs.Loaders.{Rises, LoaderIsAt, IsAbsent, items, LoaderLivesAt};
+ghost use Rattle.cm_rows.specs.Loaders.{IsLivingEnd};
 ghost use Rattle.cm_rows.specs.Loaders.{living_loader};
 
 use cm_index::BookSlot;
@@ -26,10 +27,10 @@ pub struct LiveLoader {
     pub last: Option<LastChunk>,
 }
 
-// Where the loader of a number stands or stood.
+// Where the loader of a number is, or was.
 fn search(loaders: &[BookSlot<LiveLoader>], number: u64) -> Option<usize>
     requires { Rises (items loaders.now) }
-    ensures found { IfSome result (IsAt (items loaders.now) number) }
+    ensures found { IfSome result (LoaderIsAt (items loaders.now) number) }
     ensures absent { IfNone result (IsAbsent (items loaders.now) number) }
 {
     loaders
@@ -37,17 +38,17 @@ fn search(loaders: &[BookSlot<LiveLoader>], number: u64) -> Option<usize>
         .ok()
 }
 
-/// Where the loader of a number stands, if it lives.
+/// Where the loader of a number is, if it lives.
 pub fn find(loaders: &[BookSlot<LiveLoader>], number: u64) -> Option<usize>
     requires { Rises (items loaders.now) }
-    ensures found { IfSome result (IsKept loaders.now number) }
+    ensures found { IfSome result (LoaderLivesAt loaders.now number) }
     ensures absent { IfNone result (IsAbsent (living loaders.now) number) }
 {
     let at = search(loaders, number)?;
     if loaders[at].live { Some(at) } else { None }
 }
 
-/// Puts a loader that lives behind the others, where there is room for it.
+/// Appends a live loader to the others, if there is room for it.
 pub fn push_loader(loaders: &mut Vec<BookSlot<LiveLoader>>, loader: LiveLoader)
     requires { vec_len loaders.old < vec_capacity loaders.old }
     ensures loaders { loaders.new.items
@@ -62,7 +63,7 @@ pub fn push_loader(loaders: &mut Vec<BookSlot<LiveLoader>>, loader: LiveLoader)
         .unwrap();
 }
 
-/// Keeps another last chunk of a loader.
+/// Replaces a loader's last chunk.
 pub fn set_last(loaders: &mut Vec<BookSlot<LiveLoader>>, at: usize, number: u64, last: LastChunk)
     requires { at < vec_len loaders.old }
     ensures loaders { loaders.new.items
@@ -76,7 +77,7 @@ pub fn set_last(loaders: &mut Vec<BookSlot<LiveLoader>>, at: usize, number: u64,
     };
 }
 
-/// How many there are up to the last one that lives.
+/// How many loaders there are up to the last one that lives.
 pub fn living_end(loaders: &[BookSlot<LiveLoader>]) -> usize
     ensures { IsLivingEnd loaders.now result }
 {
@@ -90,7 +91,7 @@ pub fn living_end(loaders: &[BookSlot<LiveLoader>]) -> usize
     0
 }
 
-/// Puts the living ones of others in the place of the loaders, where there is room for them.
+/// Replaces the loaders by the live ones of another list, if there is room for them.
 pub fn copy_loaders(loaders: &mut Vec<BookSlot<LiveLoader>>, others: &[BookSlot<LiveLoader>])
     requires { length (living others.now) ≤ vec_capacity loaders.old }
     ensures loaders { loaders.new.items ≡ swept others.now }
@@ -102,7 +103,7 @@ pub fn copy_loaders(loaders: &mut Vec<BookSlot<LiveLoader>>, others: &[BookSlot<
     }
 }
 
-// Puts a loader behind the others if it lives, where there is room for it.
+// Appends a loader to the others if it lives, if there is room for it.
 fn push_living(loaders: &mut Vec<BookSlot<LiveLoader>>, slot: &BookSlot<LiveLoader>)
     requires { vec_len loaders.old + length (living (slot.now ∷ [])) ≤ vec_capacity loaders.old }
     ensures loaders { loaders.new.items ≡ loaders.old.items ++ swept (slot.now ∷ []) }

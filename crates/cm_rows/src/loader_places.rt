@@ -10,17 +10,17 @@ use crate::live_loader::{LiveLoader, living_end, push_loader};
 use cm_index::BookSlot;
 use std::alloc::{AllocError, Global};
 
-/// The places of loaders, rising by number.
+/// The places of loaders, sorted by number.
 #[derive(Drop)]
 pub struct LoaderPlaces {
-    /// The loaders, and between them those that live no more.
+    /// The loaders, and between them those that are dead.
     pub slots: Vec<BookSlot<LiveLoader>>,
-    /// Beside each loader the place of its last row.
+    /// For each loader the place of its last row.
     pub newest: Vec<Option<u32>>,
 }
 
 impl LoaderPlaces {
-    /// No loaders, with room for so many.
+    /// No loaders, with room for `count` of them.
     pub fn with_room(alloc: Global, count: usize) -> Result<LoaderPlaces, AllocError>
         ensures none { IfOk result (λ loaders. HasNoLoaders loaders) }
         ensures room { IfOk result (λ loaders. HasLoaderRoom loaders count) }
@@ -30,7 +30,7 @@ impl LoaderPlaces {
         Ok(LoaderPlaces { slots, newest })
     }
 
-    /// Leaves no loader.
+    /// Removes all loaders.
     pub fn clear(&mut self)
         ensures none { HasNoLoaders self.new }
         ensures room { (n : ℕ) → HasLoaderRoom self.old n → HasLoaderRoom self.new n }
@@ -39,8 +39,8 @@ impl LoaderPlaces {
         self.newest.clear();
     }
 
-    /// Puts a loader with no class behind the others, whose row stands at this place, where there
-    /// is room for it.
+    /// Appends a loader with no class to the others, with the place of its row, if there is room
+    /// for it.
     pub fn push(&mut self, number: u64, place: u32)
         requires room { vec_len self.old.slots < vec_capacity self.old.slots }
         requires newest_room { vec_len self.old.newest < vec_capacity self.old.newest }
@@ -55,7 +55,7 @@ impl LoaderPlaces {
         push_place(&mut self.newest, Some(place));
     }
 
-    /// Ends a loader. It keeps its place as long as one behind it lives.
+    /// Ends a loader. It keeps its place as long as one after it lives.
     pub fn end(&mut self, at: usize, number: u64)
         requires within { at < vec_len self.old.slots }
         requires beside { vec_len self.old.newest ≡ vec_len self.old.slots }

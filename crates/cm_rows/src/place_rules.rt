@@ -1,4 +1,4 @@
-//! The rules on the place of a class's record that other rows have no part in, or one alone.
+//! The rules on the place of a class's record that concern no other row, or only one.
 
 ghost use Rattle.std.specs.Prelude.{◌≡◌, ◌+◌, ◌&&◌, ◌↔◌, IsTrue, Some, MatchBool, nat_le};
 ghost use Rattle.cm_pool.specs.Chunks.{chunk_size, same_chunk};
@@ -17,7 +17,7 @@ pub fn is_chunk(geometry: Geometry, chunk: &Chunk) -> bool
     chunk.is_within(geometry)
 }
 
-/// Whether the words are inside a chunk that the region can have, at least one.
+/// Whether the words are inside a chunk that the region can have, and at least one.
 pub fn is_inside(geometry: Geometry, place: &Place) -> bool
     ensures { result ≡ (is_chunk geometry place.now.chunk && nat_le 1 place.now.words
         && nat_le (place.now.offset + place.now.words) (chunk_size place.now.chunk.order)) }
@@ -25,8 +25,8 @@ pub fn is_inside(geometry: Geometry, place: &Place) -> bool
     is_chunk(geometry, &place.chunk) && place.is_inside()
 }
 
-/// Takes the place of a class's record: on the top of its loader's last chunk, or at the front of a
-/// free chunk. False, and nothing is changed, where it is neither.
+/// Takes the place of a class's record: after the last record on its loader's last chunk, or at the
+/// front of a free chunk. Returns false, and changes nothing, if it is neither.
 pub fn take_place(last: Option<LastChunk>, place: &Place, pool: &mut Pool) -> bool
     ensures { MatchBool result (TakesPlace last place.now pool.old pool.new)
         (HasNoPlace last place.now pool.old pool.new) }
@@ -37,7 +37,7 @@ pub fn take_place(last: Option<LastChunk>, place: &Place, pool: &mut Pool) -> bo
     place.offset == 0 && pool.take(&place.chunk)
 }
 
-/// Whether the pool has a chunk, with all its words free.
+/// Whether the pool has a chunk, with all of its words free.
 pub fn is_free(pool: &mut Pool, chunk: &Chunk) -> bool
     ensures free { IsTrue result ↔ IsFreeChunk pool.old chunk.now }
     ensures same { pool.new ≡ pool.old }

@@ -2,7 +2,7 @@
 
 ghost use Rattle.std.specs.Prelude.{◌≡◌, IfSome, IfNone};
 ghost use Rattle.cm_rows.specs.Loaders.{Rises, items};
-ghost use Rattle.cm_rows.specs.Placing.{IsPlaced, Breaks};
+ghost use Rattle.cm_rows.specs.Placing.{IsPlaced, Breaches};
 
 use crate::live_loader::{LiveLoader, find};
 use crate::place_rules::{is_inside, take_place};
@@ -10,8 +10,8 @@ use cm_index::BookSlot;
 use cm_layout::{ClassRow, EntryRule, row_limit};
 use cm_pool::{Geometry, Pool};
 
-/// Takes the place of a class's record, where its row may come behind rows that take so many slots,
-/// with these loaders; or tells the first rule that the row breaks, and nothing is taken.
+/// Takes the place of a class's record, if its row may follow rows that take `taken` slots, with
+/// these loaders. Else returns the first rule that the row breaks, and takes nothing.
 pub fn place_class(
     geometry: Geometry,
     taken: usize,
@@ -20,7 +20,7 @@ pub fn place_class(
     pool: &mut Pool,
 ) -> Option<EntryRule>
     requires { Rises (items loaders.now) }
-    ensures broken { IfSome result (Breaks geometry taken loaders.now row.now pool.old pool.new) }
+    ensures broken { IfSome result (Breaches geometry taken loaders.now row.now pool.old pool.new) }
     ensures same { IfSome result (λ rule. pool.new ≡ pool.old) }
     ensures placed { IfNone result (IsPlaced geometry taken loaders.now row.now pool.old pool.new) }
 {

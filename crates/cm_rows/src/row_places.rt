@@ -10,17 +10,17 @@ use std::alloc::{AllocError, Global};
 /// The places of rows, with what leads to them.
 #[derive(Drop)]
 pub struct RowPlaces<P> {
-    /// The rows, and between them those that live no more and aren't swept out yet.
+    /// The rows, and between them dead ones that aren't swept out yet.
     pub slots: Vec<BookSlot<Row<P>>>,
-    /// Beside each living row the place of the row of its loader before it.
+    /// For each live row the place of its loader's row before it.
     pub before: Vec<Option<u32>>,
     pub index: Index,
-    /// Room to count places in while they are swept.
+    /// Room for the new places while rows are swept.
     pub places: Vec<u32>,
 }
 
 impl<P: Kept> RowPlaces<P> {
-    /// No rows, with room for so many.
+    /// No rows, with room for `count` of them.
     pub fn with_room(alloc: Global, count: usize) -> Result<RowPlaces<P>, AllocError>
         ensures none { IfOk result (λ rows. HasNoRows rows) }
         ensures room { IfOk result (λ rows. HasRowRoom rows count) }
@@ -37,7 +37,7 @@ impl<P: Kept> RowPlaces<P> {
         })
     }
 
-    /// Leaves no row.
+    /// Removes all rows.
     pub fn clear(&mut self)
         ensures none { HasNoRows self.new }
         ensures room { (n : ℕ) → HasRowRoom self.old n → HasRowRoom self.new n }

@@ -1,19 +1,20 @@
-//! What goes over rows.
+//! Loops over rows.
 
 ghost use Rattle.std.specs.Prelude.{◌≡◌, ◌<◌, ◌≤◌, ◌&&◌, [], ◌∷◌, ◌++◌, vec_len, vec_capacity};
 ghost use Rattle.std.specs.Prelude.{length, map, true};
 ghost use Rattle.std.specs.List.{AllByRecursion};
 ghost use Rattle.cm_index.specs.Living.{living};
 ghost use Rattle.cm_layout.specs.Rows.{moved_row, bare};
-ghost use Rattle.cm_rows.specs.Held.{Holds, CanBeHeld, chunks_of, own_chunk, living_chunk};
+ghost use Rattle.cm_rows.specs.Held.{PoolHolds, CanBeHeld, chunks_of_rows, own_chunk};
+ghost use Rattle.cm_rows.specs.Held.{living_chunk};
 ghost use Rattle.cm_rows.specs.Links.{words_on};
 
 use cm_index::BookSlot;
 use cm_layout::Row;
 use cm_pool::{Chunk, Pool};
 
-/// Puts the living rows of others in the place of the rows, where there is room for them, with
-/// nothing kept of a class.
+/// Replaces the rows by the live rows of another list, if there is room for them, with nothing kept
+/// of a class.
 pub fn copy_rows<Q>(slots: &mut Vec<BookSlot<Row<()>>>, others: &[BookSlot<Row<Q>>])
     requires { length (living others.now) ≤ vec_capacity slots.old }
     ensures rows { living slots.new.items ≡ bare (living others.now) }
@@ -29,7 +30,7 @@ pub fn copy_rows<Q>(slots: &mut Vec<BookSlot<Row<()>>>, others: &[BookSlot<Row<Q
     }
 }
 
-// Puts a row that lives behind the others, where there is room for it.
+// Appends a live row to the others, if there is room for it.
 fn push_living<P: Drop>(slots: &mut Vec<BookSlot<Row<P>>>, row: Row<P>)
     requires { vec_len slots.old < vec_capacity slots.old }
     ensures slots { slots.new.items ≡ slots.old.items ++ record { item = row; live = true } ∷ [] }
@@ -45,8 +46,8 @@ fn push_living<P: Drop>(slots: &mut Vec<BookSlot<Row<P>>>, row: Row<P>)
 
 /// Gives the chunks of all rows back to the pool.
 pub fn give_all<P>(slots: &[BookSlot<Row<P>>], pool: &mut Pool)
-    requires { Holds pool.old.geometry pool.old (chunks_of (living slots.now)) }
-    ensures { Holds pool.old.geometry pool.new [] }
+    requires { PoolHolds pool.old.geometry pool.old (chunks_of_rows (living slots.now)) }
+    ensures { PoolHolds pool.old.geometry pool.new [] }
 {
     for slot in slots {
         if let Some(chunk) = living_chunk(slot) {
@@ -57,9 +58,9 @@ pub fn give_all<P>(slots: &[BookSlot<Row<P>>], pool: &mut Pool)
 
 /// Takes the chunks of rows out of a pool that holds none.
 pub fn take_all<P>(slots: &[BookSlot<Row<P>>], pool: &mut Pool)
-    requires none { Holds pool.old.geometry pool.old [] }
-    requires apart { CanBeHeld pool.old.geometry (chunks_of (living slots.now)) }
-    ensures { Holds pool.old.geometry pool.new (chunks_of (living slots.now)) }
+    requires none { PoolHolds pool.old.geometry pool.old [] }
+    requires apart { CanBeHeld pool.old.geometry (chunks_of_rows (living slots.now)) }
+    ensures { PoolHolds pool.old.geometry pool.new (chunks_of_rows (living slots.now)) }
 {
     for slot in slots {
         if let Some(chunk) = living_chunk(slot) {
@@ -89,8 +90,8 @@ pub fn own_chunk<P>(row: &Row<P>) -> Option<Chunk>
     }
 }
 
-/// Lets the record of a row lie on another chunk, if it lies on this one. Says how many words it
-/// has there, or 0.
+/// Moves the record of a row to another chunk, if it is on this one. Returns how many words it has
+/// there, or 0.
 pub fn move_row<P>(row: &mut Row<P>, from: &Chunk, to: Chunk) -> u32
     ensures row { row.new ≡ moved_row from.now to row.old }
     ensures words { result ≡ words_on from.now row.old }

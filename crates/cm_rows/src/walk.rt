@@ -8,7 +8,7 @@ use cm_index::BookSlot;
 use cm_layout::Row;
 use std::marker::Model;
 
-/// The rows of a book that are left to go over. Contracts see the list of these rows.
+/// The rows that an iteration has left. Contracts see the list of these rows.
 #[derive(Drop)]
 pub struct Walk<'a, P> {
     slots: &'a [BookSlot<Row<P>>],
@@ -34,7 +34,7 @@ impl<'a, P> Walk<'a, P> {
         Walk { slots, at: 0 }
     }
 
-    /// The next row, or `None` behind the last.
+    /// The next row, or `None` after the last.
     pub fn next(&mut self) -> Option<&'a Row<P>>
         ensures { MatchOption result (self.old ≡ []) (λ row. self.old ≡ row.now ∷ self.new) }
     {
@@ -44,7 +44,7 @@ impl<'a, P> Walk<'a, P> {
     }
 }
 
-// Where the next living row stands from a place on.
+// Where the next live row is, from a place on.
 fn next_living<T>(slots: &[BookSlot<T>], from: usize) -> Option<usize>
     ensures { MatchOption result (living (drop from slots.now) ≡ []) (ComesNext slots.now from) }
 {

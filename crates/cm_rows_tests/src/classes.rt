@@ -1,9 +1,9 @@
-//! Classes by name, in a book of their records.
+//! Classes by name, in live rows with their records.
 use crate::samples::{chunk, class_row, loader, small_book, take, unload};
 use cm_class::{Class, read_shape};
 use cm_layout::{Entry, Row};
 use cm_record::{Record, build};
-use cm_rows::Book;
+use cm_rows::LiveRows;
 use std::alloc::{AllocGlobal, Global};
 use std::process::Abort;
 use std::sync::Arc;
@@ -27,14 +27,14 @@ fn record_of(alloc: Global, bytes: &[u8]) -> Result<Record, Fail> {
     record_of_class(alloc, &class)
 }
 
-// And its record.
+// The record of such a class.
 fn record_of_name(alloc: Global, name: &[u8]) -> Result<Arc<Record, Global>, Fail> {
     let mut bytes = Vec::new(alloc);
     push_class(&mut bytes, name)?;
     Ok(Arc::new(alloc, record_of(alloc, &bytes)?)?)
 }
 
-// Three loaders, with classes of the names beside them, one word each.
+// Three loaders, with classes of the names given with them, one word each.
 const CLASSES: [(u64, &[u8]); 7] = [
     (1, b"A"),
     (2, b"A"),
@@ -45,7 +45,7 @@ const CLASSES: [(u64, &[u8]); 7] = [
     (3, b""),
 ];
 
-type Classes = Book<Arc<Record, Global>>;
+type Classes = LiveRows<Arc<Record, Global>>;
 
 fn add_loaders(book: &mut Classes) -> Result<(), Fail> {
     for (number, name) in &[(1, b"app"), (2, b"lib"), (3, b"web")] {
@@ -76,7 +76,7 @@ fn book_of_classes(alloc: Global) -> Result<Classes, Fail> {
     Ok(book)
 }
 
-// No loader has these.
+// Classes that no loader has.
 const NONE: [(u64, &[u8]); 5] = [
     (2, b"B"),
     (1, b""),
@@ -85,8 +85,8 @@ const NONE: [(u64, &[u8]); 5] = [
     (1, b"java/lang/"),
 ];
 
-// Whether a loader has a class of this name, by the name and by a class that has it; what is found
-// has that name.
+// Whether a loader has a class of this name, looked up by the name and by a class that has it, and
+// what is found has that name.
 fn has_like(
     book: &Classes,
     loader: u64,
@@ -121,7 +121,8 @@ fn finds_each_class_in_its_loader(rt: HostRuntime) -> Result<(), Fail> {
     finds_each(&rt, &book)
 }
 
-// Whether the second loader's class is away, one of that name is there, and one of the third.
+// Whether the second loader's class is gone, and a class of that name and one of the third loader
+// are there.
 fn has_others(book: &Classes) -> bool {
     book.class(2, b"A").is_none()
         && book.class(1, b"A").is_some()

@@ -9,7 +9,7 @@ use crate::samples::{
 };
 use cm_layout::{EntryRule, Row};
 use cm_pool::Chunk;
-use cm_rows::{Book, LastChunk};
+use cm_rows::{LastChunk, LiveRows};
 use std::alloc::AllocGlobal;
 use std::process::Abort;
 use std::test::*;
@@ -50,8 +50,9 @@ static JUDGED: [Case<'_>; 22] = [
     (8, Loader(8, b"app"), None),
 ];
 
-// Whether the loader of the last row is live under its name, and of the others what was left.
-fn has_what_is_left(book: &Book<()>) -> bool {
+// Whether the loader of the last row is live under its name, and of the others exactly what should
+// be left.
+fn has_what_is_left(book: &LiveRows<()>) -> bool {
     book.loader(b"app") == Some(8)
         && book.loader(b"boot").is_none()
         && book.is_live(2)
@@ -62,7 +63,7 @@ fn has_what_is_left(book: &Book<()>) -> bool {
         && book.is_full(125)
 }
 
-fn judge_each(rt: &impl Abort, book: &mut Book<()>) -> Result<(), Fail> {
+fn judge_each(rt: &impl Abort, book: &mut LiveRows<()>) -> Result<(), Fail> {
     offer_each(book, &JUDGED)?;
     assert!(rt; has_what_is_left(book));
     Ok(())
@@ -89,8 +90,8 @@ static MOVED: [Case<'_>; 12] = [
     (7, Move(1, (1, 256), SECOND), CHUNKS),
 ];
 
-// Whether the chunks of a book's classes are these, in the order of their rows.
-fn lie_on(book: &Book<()>, chunks: &[Chunk]) -> bool {
+// Whether the chunks of the classes are these, in the order of their rows.
+fn lie_on(book: &LiveRows<()>, chunks: &[Chunk]) -> bool {
     let mut expected = chunks.iter();
     let mut walk = book.walk();
     for _ in 0..book.len() {
@@ -104,12 +105,13 @@ fn lie_on(book: &Book<()>, chunks: &[Chunk]) -> bool {
 }
 
 // Whether the one loader that has classes has this last chunk.
-fn has_last(book: &Book<()>, chunk: Chunk, used: u32) -> bool {
+fn has_last(book: &LiveRows<()>, chunk: Chunk, used: u32) -> bool {
     book.last(1) == Some(LastChunk { chunk, used }) && book.last(2).is_none()
 }
 
-fn move_last(rt: &impl Abort, book: &mut Book<()>) -> Result<(), Fail> {
-    // a chunk that isn't the last one, another loader's, one that is too small, one that is in use
+fn move_last(rt: &impl Abort, book: &mut LiveRows<()>) -> Result<(), Fail> {
+    // a chunk that isn't the last one, one of another loader, one that is too small, one that is in
+    // use
     offer_each(book, &MOVED)?;
     assert!(rt; has_last(book, chunk(1, 256), 129));
     let moved = [chunk(0, 512), chunk(0, 512), chunk(0, 0), chunk(1, 256)];
@@ -140,7 +142,7 @@ static GONE_AT_ONCE: [Case<'_>; 14] = [
     (10, UnloadAll(&[3]), ROWS),
 ];
 
-fn unload_at_once(rt: &impl Abort, book: &mut Book<()>) -> Result<(), Fail> {
+fn unload_at_once(rt: &impl Abort, book: &mut LiveRows<()>) -> Result<(), Fail> {
     offer_each(book, &GONE_AT_ONCE)?;
     assert_eq!(rt; book.len(), 0);
     Ok(())
@@ -173,7 +175,7 @@ static FULL: [Case<'_>; 10] = [
     (68, Class(1, FIRST, 8, 8), ROWS),
 ];
 
-fn fill_with_long_names(rt: &impl Abort, book: &mut Book<()>) -> Result<(), Fail> {
+fn fill_with_long_names(rt: &impl Abort, book: &mut LiveRows<()>) -> Result<(), Fail> {
     for number in 1..64 {
         take(book, number, loader(number, &long_name_of(number))?)?;
     }
@@ -190,7 +192,7 @@ fn long_names_take_two_slots(rt: HostRuntime) -> Result<(), Fail> {
     fill_with_long_names(&rt, &mut book)
 }
 
-// A live row as tables write it.
+// A live row as tables give it.
 #[derive(Clone, Copy)]
 enum LiveSample {
     Loader(u64, &'static [u8]),
@@ -218,7 +220,7 @@ static LIVE: [(LiveSample, Option<EntryRule>); 7] = [
     (LiveSample::Loader(7, b"lib"), None),
 ];
 
-fn take_each(rt: &impl Abort, book: &mut Book<()>) -> Result<(), Fail> {
+fn take_each(rt: &impl Abort, book: &mut LiveRows<()>) -> Result<(), Fail> {
     for (sample, rule) in &LIVE {
         assert_eq!(rt; book.apply_live(7, sample.row()?), *rule);
     }
@@ -231,8 +233,8 @@ fn takes_live_rows_in_their_order(rt: HostRuntime) -> Result<(), Fail> {
     take_each(&rt, &mut book)
 }
 
-// Two classes of the one loader that a book had, and what a copy of another book takes after that
-// one's rows.
+// Two classes of the only loader that was there before, and what a copy takes after the copied
+// rows.
 static OLD: [Case<'_>; 2] = [
     (1, Loader(1, b"old"), None),
     (2, Class(1, FOUR, 0, 8), None),
@@ -250,15 +252,15 @@ static BEHIND_A_COPY: [Case<'_>; 3] = [
 ];
 
 // Whether it has one loader, of a name that no loader had before, and a class without a name.
-fn has_copied(copy: &Book<()>) -> bool {
+fn has_copied(copy: &LiveRows<()>) -> bool {
     copy.len() == 2
         && copy.loader(b"old").is_none()
         && copy.loader(b"app") == Some(1)
         && copy.class(1, b"").is_some()
 }
 
-// Fills a book with other rows, then with those of this one.
-fn copy_over(rt: &impl Abort, copy: &mut Book<()>, book: &Book<()>) -> Result<(), Fail>
+// Fills live rows with other rows, and then copies these over them.
+fn copy_over(rt: &impl Abort, copy: &mut LiveRows<()>, book: &LiveRows<()>) -> Result<(), Fail>
     requires { copy.old.sizes ≡ book.now.sizes }
 {
     offer_each(copy, &OLD)?;
@@ -267,7 +269,7 @@ fn copy_over(rt: &impl Abort, copy: &mut Book<()>, book: &Book<()>) -> Result<()
     offer_each(copy, &BEHIND_A_COPY)
 }
 
-fn fill_and_copy(rt: &(impl Abort + AllocGlobal), book: &mut Book<()>) -> Result<(), Fail>
+fn fill_and_copy(rt: &(impl Abort + AllocGlobal), book: &mut LiveRows<()>) -> Result<(), Fail>
     requires { book.old.sizes ≡ record { top = 3; roots = 1; slots = 256 } }
 {
     offer_each(book, &COPIED)?;
@@ -281,13 +283,13 @@ fn a_copy_answers_as_its_book(rt: HostRuntime) -> Result<(), Fail> {
     fill_and_copy(&rt, &mut book)
 }
 
-// All of the region, once a book that had half of it is cleared.
+// The whole region, after rows that had half of it are cleared.
 static WHOLE: [Case<'_>; 2] = [
     (1, Loader(1, b"app"), None),
     (2, Class(1, (3, 0), 0, 1024), None),
 ];
 
-fn clear_and_fill(rt: &impl Abort, book: &mut Book<()>) -> Result<(), Fail> {
+fn clear_and_fill(rt: &impl Abort, book: &mut LiveRows<()>) -> Result<(), Fail> {
     offer_each(book, &OLD)?;
     book.clear();
     assert_eq!(rt; book.len(), 0);

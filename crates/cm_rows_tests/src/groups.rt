@@ -5,7 +5,7 @@ use std::alloc::{AllocGlobal, Global};
 use std::process::Abort;
 use std::test::Fail;
 
-/// So many entries, the first of which has this number.
+/// `count` entries, the first of which has this number.
 fn group_of(alloc: Global, first: u64, count: u64) -> Result<Group, Fail> {
     if first == 0 || first > 1_000 {
         return Err("a first number from 1 to 1000".into());
@@ -99,7 +99,7 @@ fn a_group_takes_what_it_has_slots_for(rt: HostRuntime) -> Result<(), Fail> {
     takes_what_has_slots(&rt, &mut group)
 }
 
-// Whether the second group joins, and the first one's entries and slots then.
+// Whether the second group joins the first, and how many entries and slots the first then has.
 fn join_long_names(alloc: Global, count: u64, more: u64) -> Result<(bool, usize, usize), Fail> {
     let mut group = group_of_long_names(alloc, 1, count)?;
     let other = group_of_long_names(alloc, count.wrapping_add(1), more)?;
@@ -115,7 +115,7 @@ fn groups_join_by_their_slots(rt: HostRuntime) -> Result<(), Fail> {
     Ok(())
 }
 
-// Whether a group joins that has learnt such a number.
+// Whether a group that has learnt such a number joins.
 fn is_taken(group: &mut Group, mut other: Group, learnt: u64) -> bool {
     if learnt < other.first() {
         other.set_learnt(learnt);
@@ -126,7 +126,7 @@ fn is_taken(group: &mut Group, mut other: Group, learnt: u64) -> bool {
 // First number and length of two groups, and what the second has learnt.
 type Pair = (u64, u64, u64, u64, u64);
 
-// Whether they join, and first number, length and what is learnt of the first then.
+// Whether they join, and then the first number, the length and the learnt number of the first.
 fn join_groups(alloc: Global, pair: Pair) -> Result<(bool, u64, u64, u64), Fail> {
     let (first, count, next, more, learnt) = pair;
     let mut group = group_of(alloc, first, count)?;

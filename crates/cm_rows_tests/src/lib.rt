@@ -1,4 +1,4 @@
-//! Tests of rows: where parts of a region lie, entries and the rows after them, and groups.
+//! Tests of rows: where parts of a region are, entries and the rows after them, and groups.
 #![tactic(auto)]
 
 #[cfg(test)]

@@ -1,4 +1,4 @@
-//! A plain model: the rows in a list, each question answered by going over all of them.
+//! A plain model: the rows in a list, in which each query goes through all of them.
 use crate::samples::{CHUNKS, ROWS};
 use cm_layout::{ClassRow, Entry, EntryRule, LoaderRow, Move, Row};
 use cm_pool::{Chunk, Place};
@@ -10,7 +10,7 @@ pub struct PlainRow {
     pub loader: u64,
     /// How many slots it takes: two for a loader whose name has more than 48 bytes.
     pub slots: usize,
-    /// Where the record of a class lies; none of the loader's own row.
+    /// The place of a class's record; `None` for the loader's own row.
     pub place: Option<Place>,
 }
 
@@ -162,7 +162,7 @@ impl Plain {
         }
     }
 
-    fn relocate(&mut self, entry: &Move) {
+    fn apply_move(&mut self, entry: &Move) {
         for row in self.rows.iter_mut() {
             if row.is_on(&entry.from) {
                 row.place = row.place.map(|place| Place {
@@ -191,7 +191,7 @@ impl Plain {
                 place: Some(row.place),
             })?,
             Entry::Unload(entry) => self.rows.retain(|row| row.loader != entry.loader),
-            Entry::Move(entry) => self.relocate(entry),
+            Entry::Move(entry) => self.apply_move(entry),
             Entry::UnloadAll(entry) => {
                 let loaders = entry.loaders.as_slice();
                 self.rows.retain(|row| !loaders.contains(&row.loader));

@@ -1,4 +1,4 @@
-//! Entries by chance, most of which break no rule.
+//! Random entries, most of which break no rule.
 use crate::plain::Plain;
 use crate::samples::{chunk, class, loader, move_of, unload, unload_all};
 use cm_layout::Entry;
@@ -28,7 +28,7 @@ impl Random {
         }
     }
 
-    // The loader of a row by chance.
+    // The loader of a random row.
     fn loader(&mut self, rows: &Plain, number: u64) -> u64 {
         let at = self.below(128) as usize % rows.rows.len().max(1);
         rows.rows.get(at).map_or(number, |row| row.loader)
@@ -60,7 +60,7 @@ impl Random {
     }
 }
 
-/// How many bytes names have: on both sides of what a slot has room for, and the most.
+/// How many bytes names have: around what a slot has room for, and the most.
 const LENGTHS: [usize; 6] = [3, 47, 48, 49, 95, 96];
 
 /// A name of 96 visible characters, of which the first three are those of the short name.

@@ -1,4 +1,4 @@
-//! The superblock of a region file, and where its parts lie.
+//! The superblock of a region file, and where its parts are.
 use cm_layout::{Half, Superblock, record_at, root_at, slot_at};
 use cm_pool::{Chunk, Geometry, Place};
 use std::process::Abort;
@@ -29,8 +29,8 @@ fn a_superblock_is_its_front_zeros_and_an_open_gate(rt: HostRuntime) -> Result<(
     Ok(())
 }
 
-// Bytes, and what stands in their place: magic, version, a top of 2, no root, 257 slots' high byte,
-// a byte among the zeros, the gate.
+// Places and the bytes put there: magic, version, a top of 2, no root, 257 slots' high byte, a byte
+// among the zeros, the gate.
 const WRONG: [(usize, u8); 7] = [
     (0, 0),
     (8, 2),
@@ -41,7 +41,8 @@ const WRONG: [(usize, u8); 7] = [
     (4_095, 0),
 ];
 
-// Whether bytes are read with another byte at a place, which is put back; or have no such place.
+// Whether bytes are read with a different byte at a place, which is then put back; true if there is
+// no such place.
 fn is_read_with(bytes: &mut [u8], at: usize, byte: u8) -> bool {
     let Some(there) = bytes.get_mut(at) else {
         return true;
@@ -55,8 +56,8 @@ fn is_read_with(bytes: &mut [u8], at: usize, byte: u8) -> bool {
     is_read
 }
 
-// The first place with another byte of which bytes are read, or their end if they are read
-// without their last one.
+// The first place with a different byte at which bytes are still read; or their end, if they are
+// read without their last byte.
 fn first_read(bytes: &mut [u8]) -> Option<usize> {
     for (at, byte) in &WRONG {
         if is_read_with(bytes, *at, *byte) {

@@ -6,21 +6,21 @@ ghost use Rattle.std.specs.Prelude.{◌≡◌};
 use crate::plain::Plain;
 use crate::random::{Random, name_of};
 use crate::samples::{loader, offer, sized_book, take, unload};
-use cm_rows::Book;
+use cm_rows::LiveRows;
 use std::alloc::Global;
 use std::test::*;
 
-// Whether both tell the same last chunk of each row's loader.
-fn lasts_agree(book: &Book<()>, plain: &Plain) -> bool {
+// Whether both have the same last chunk for each row's loader.
+fn lasts_agree(book: &LiveRows<()>, plain: &Plain) -> bool {
     plain
         .rows
         .iter()
         .all(|row| book.last(row.loader) == plain.last(row.loader))
 }
 
-// Offers an entry by chance to both: whether it breaks no rule.
+// Offers a random entry to both; returns whether it breaks no rule.
 fn offer_to_both(
-    book: &mut Book<()>,
+    book: &mut LiveRows<()>,
     plain: &mut Plain,
     random: &mut Random,
     number: u64,
@@ -41,8 +41,8 @@ fn offer_to_both(
     Ok(expected.is_none())
 }
 
-// Offers as many entries to both: how many of them break no rule.
-fn run(book: &mut Book<()>, plain: &mut Plain) -> Result<u32, Fail> {
+// Offers entries to both; returns how many of them break no rule.
+fn run(book: &mut LiveRows<()>, plain: &mut Plain) -> Result<u32, Fail> {
     let mut random = Random(1);
     let mut kept = 0u32;
     for number in 1..6000 {
@@ -69,7 +69,7 @@ fn agrees_with_a_plain_list_of_rows(rt: HostRuntime) -> Result<(), Fail> {
 }
 
 // Adds many loaders, two of three of which are unloaded at once.
-fn add_many(book: &mut Book<()>) -> Result<(), Fail> {
+fn add_many(book: &mut LiveRows<()>) -> Result<(), Fail> {
     for at in 1..9000 {
         let number = 2 * at;
         take(book, number, loader(number, &name_of(at))?)?;
@@ -80,8 +80,8 @@ fn add_many(book: &mut Book<()>) -> Result<(), Fail> {
     Ok(())
 }
 
-// Whether the third that is left is found, each by its name, and no other is.
-fn tells_a_third(book: &Book<()>) -> bool {
+// Whether the third that is left is found, each loader by its name, and no other is.
+fn tells_a_third(book: &LiveRows<()>) -> bool {
     for at in 1..9000 {
         let expected = if at % 3 == 0 { Some(2 * at) } else { None };
         if book.loader(&name_of(at)) != expected {
@@ -91,7 +91,7 @@ fn tells_a_third(book: &Book<()>) -> bool {
     true
 }
 
-fn tells_of_many(book: &mut Book<()>) -> Result<bool, Fail> {
+fn tells_of_many(book: &mut LiveRows<()>) -> Result<bool, Fail> {
     add_many(book)?;
     Ok(tells_a_third(book))
 }
@@ -101,7 +101,7 @@ fn adds_and_tells(alloc: Global) -> Result<bool, Fail> {
     tells_of_many(&mut book)
 }
 
-// Whose names are there is told also if the index stands in many blocks, and once it was swept.
+// Loaders are found by name also if the index has many blocks, and after it was swept.
 #[test]
 fn finds_each_of_many_loaders(rt: HostRuntime) -> Result<(), Fail> {
     assert!(rt; adds_and_tells(rt.alloc())?);

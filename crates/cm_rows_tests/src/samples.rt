@@ -1,4 +1,4 @@
-//! Entries and books.
+//! Sample entries and live rows.
 
 ghost use Rattle.std.specs.Prelude.{◌≡◌, IfOk};
 
@@ -6,7 +6,7 @@ use cm_layout::{
     ClassRow, Entry, EntryRule, LoaderNumbers, LoaderRow, Move, Row, SlotName, Unload, UnloadAll,
 };
 use cm_pool::{Chunk, Geometry, Place};
-use cm_rows::{Book, Kept};
+use cm_rows::{Kept, LiveRows};
 use std::alloc::Global;
 use std::test::Fail;
 
@@ -14,10 +14,10 @@ pub const ROWS: Option<EntryRule> = Some(EntryRule::OnRows);
 
 pub const CHUNKS: Option<EntryRule> = Some(EntryRule::OnChunks);
 
-// What came of an entry: the first broken rule, or a number that isn't above those of the live
-// loaders.
+// The result of an entry: the first broken rule, or an error if the number isn't above those of the
+// live loaders.
 pub fn offer<P: Kept>(
-    book: &mut Book<P>,
+    book: &mut LiveRows<P>,
     number: u64,
     entry: Entry<P>,
 ) -> Result<Option<EntryRule>, Fail>
@@ -30,23 +30,23 @@ pub fn offer<P: Kept>(
 }
 
 // Offers an entry that breaks no rule.
-pub fn take<P: Kept>(book: &mut Book<P>, number: u64, entry: Entry<P>) -> Result<(), Fail> {
+pub fn take<P: Kept>(book: &mut LiveRows<P>, number: u64, entry: Entry<P>) -> Result<(), Fail> {
     match offer(book, number, entry)? {
         None => Ok(()),
         Some(rule) => Err(rule.into()),
     }
 }
 
-// A book of a region with this many roots of 1,024 words, and this many slots.
-pub fn sized_book<P: Kept>(alloc: Global, roots: u32, slots: u32) -> Result<Book<P>, Fail>
+// Live rows of a region with this many roots of 1,024 words, and this many slots.
+pub fn sized_book<P: Kept>(alloc: Global, roots: u32, slots: u32) -> Result<LiveRows<P>, Fail>
     ensures { IfOk result (λ book. book.sizes ≡ record { top = 3; roots = roots; slots = slots }) }
 {
     let geometry = Geometry::new(3, roots, slots).ok_or("within the limits")?;
-    Ok(Book::new(alloc, geometry)?)
+    Ok(LiveRows::new(alloc, geometry)?)
 }
 
-// A book of a region with one root.
-pub fn small_book<P: Kept>(alloc: Global) -> Result<Book<P>, Fail>
+// Live rows of a region with one root.
+pub fn small_book<P: Kept>(alloc: Global) -> Result<LiveRows<P>, Fail>
     ensures { IfOk result (λ book. book.sizes ≡ record { top = 3; roots = 1; slots = 256 }) }
 {
     sized_book(alloc, 1, 256)
@@ -91,16 +91,15 @@ pub fn move_of<P>(loader: u64, from: Chunk, to: Chunk) -> Entry<P> {
     Entry::Move(Move { loader, from, to })
 }
 
-/// An entry as tables write it, of values alone: nothing of a table has to be dropped if it is
-/// left.
+/// An entry as tables give it, made of values alone, so that nothing in a table has to be dropped.
 #[derive(Clone, Copy)]
 pub enum Sample<'a> {
     /// A loader's number and name.
     Loader(u64, &'a [u8]),
-    /// A class's loader, its chunk by order and first word, its offset and how many words it has.
+    /// A class's loader, its chunk by order and first word, its offset and the number of its words.
     Class(u64, (u32, u32), u32, u32),
     Unload(u64),
-    /// A loader's chunk moves to another, each by its order and first word.
+    /// A loader's chunk moves to another; each is given by its order and first word.
     Move(u64, (u32, u32), (u32, u32)),
     UnloadAll(&'a [u64]),
 }
@@ -125,9 +124,9 @@ impl<'a> Sample<'a> {
 /// A sample with its number, and the rule that it breaks.
 pub type Case<'a> = (u64, Sample<'a>, Option<EntryRule>);
 
-/// Offers entries one after another, and fails at the first that breaks another rule than the one
-/// beside it.
-pub fn offer_each(book: &mut Book<()>, cases: &[Case<'_>]) -> Result<(), Fail>
+/// Offers entries one after another, and fails at the first that breaks a different rule than the
+/// one given.
+pub fn offer_each(book: &mut LiveRows<()>, cases: &[Case<'_>]) -> Result<(), Fail>
     ensures { book.new.sizes ≡ book.old.sizes }
 {
     for (at, case) in cases.iter().enumerate() {

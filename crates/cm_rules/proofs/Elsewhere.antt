@@ -1,4 +1,4 @@
--- Rules but those on members that stand twice ask the same of a member at any place.
+-- All rules but those on duplicate members check the same of a member at any place.
 -- For `first_field`, `first_method`.
 use Rattle.std.proofs.Common.{◌≡◌, ℕ, refl}
 use Rattle.cm_class.specs.declared.class_file.Member.{Member}

@@ -11,7 +11,7 @@ use Rattle.cm_rules.specs.declared.rule.Broken.{Broken}
 use Rattle.cm_rules.specs.Fault.{all_rules, holds, spots, broken_spot, first_of, fault}
 use Rattle.cm_rules.specs.Least.{KeepsAt, KeepsEach, KeepsRules, IsFirstFault}
 
--- where a search among spots ends
+-- what a search among spots finds
 record Found (c : ClassFile) (rule : Rule) (among : List Spot) (spot : Spot) : Type 0 where
   before : List Spot
   after : List Spot
@@ -61,7 +61,7 @@ module _ (c : ClassFile) (rule : Rule) where
   kept_in [] e = tt
   kept_in (s ∷ among) e = kept_at s among (holds rule c s) refl e (kept_in among)
 
--- where a search among rules ends
+-- what a search among rules finds
 record FoundRule (c : ClassFile) (among : List Rule) (broken : Broken) : Type 0 where
   before : List Rule
   after : List Rule

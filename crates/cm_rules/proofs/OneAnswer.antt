@@ -1,4 +1,4 @@
--- At most one answer is so of bytes.
+-- At most one answer is correct for given bytes.
 -- For `read_class`.
 use Rattle.std.proofs.Common.{◌≡◌, ◌⊎◌, inl, inr, ⊎_elim, ℕ, List, Some, None, Result, Ok, Err}
 use Rattle.std.proofs.Common.{refl, sym, ap, ◌∙◌}
@@ -20,7 +20,7 @@ Shape = Result ClassFile ShapeFault
 abbrev Reading : Type 0
 Reading = Result ClassFile ClassFault
 
--- what each answer says of the shape
+-- what each answer says about the shape
 abbrev shape_of : (bytes : List ℕ) (r : Reading) → IsReading bytes r → Shape
 shape_of bytes (Ok c) h = Ok c
 shape_of bytes (Err Truncated) h = Err shapes.Truncated
@@ -38,7 +38,7 @@ shape_is bytes (Err (Malformed at)) h = h
 shape_is bytes (Err (Rule broken)) h = h.1
 shape_is bytes (Err NoMemory) h = absurd h
 
--- answers of one shape are one
+-- answers with the same shape are the same
 same_shape : (bytes : List ℕ) (r s : Reading) (h : IsReading bytes r) (k : IsReading bytes s)
     → shape_of bytes r h ≡ shape_of bytes s k → r ≡ s
 same_shape bytes (Ok c) (Ok d) h k e =
@@ -95,7 +95,7 @@ one_reading bytes r s h k =
     (one_answer bytes (shape_of bytes r h) (shape_of bytes s k) (shape_is bytes r h)
     (shape_is bytes s k))
 
--- what was answered is so, or an allocation failed
+-- the result is correct, or an allocation failed
 answered : (bytes : List ℕ) (r : Reading) → IsUnlessRefused bytes r → IsReading bytes r
     ⊎ ((r ≡ Err NoMemory) × IsSpelling bytes)
 answered bytes (Ok c) h = inl h

@@ -1,4 +1,4 @@
--- Loops that look for the first item that fails a test.
+-- Loops that search for the first item that fails a test.
 -- For `attributes_keep`, `broken_spot`, `first_attribute` and others.
 use Rattle.std.proofs.Common.{◌≡◌, ℕ, suc, ◌+◌, ◌-◌, ◌<◌, ◌≤◌, Bool, true, false, cond, not, List}
 use Rattle.std.proofs.Common.{[], ◌∷◌, ◌++◌, map, length, get_or, drop, Option, Some, None, refl}
@@ -47,7 +47,7 @@ module _ {A : Type 0} (test : ℕ → A → Bool) where
   none_fails items i total le so_far =
       ap (first_failing test i) (sym (drop_all i items le)) ∙ so_far
 
-  -- the same where an iterator gives the items
+  -- the same if an iterator yields the items
 
   pub fails_next : (rest others : List A) (i : ℕ) (x : A) (total : Option ℕ) → rest ≡ x ∷ others
       → false ≡ test i x → first_failing test i rest ≡ total → Some i ≡ total
@@ -82,7 +82,7 @@ find-append p [] ys = refl
 find-append p (x ∷ xs) ys =
     or_else-cond (p x) x (find p xs) (find p ys) (find p (xs ++ ys)) (find-append p xs ys)
 
--- spots of one sort, where H says what the rule says of the item there
+-- spots of one sort; H gives what the rule says about the item there
 find_sort : {A : Type 0} (H : Spot → Bool) (make : ℕ → Spot) (test : ℕ → A → Bool) (items : List A)
     (k : ℕ)
     → ((i : ℕ) → H (make (k + i)) ≡ at_item items i (test (k + i)))

@@ -13,10 +13,10 @@ use Rattle.cm_rules.specs.declared.rule.Spot.{Spot}
 use Rattle.cm_rules.specs.declared.rule.Spot.TheVariants.{Pool, This, Super, Interface, Field}
 use Rattle.cm_rules.specs.declared.rule.Spot.TheVariants.{Method, Attribute}
 use Rattle.cm_rules.specs.declared.rule.Broken.{Broken}
-use Rattle.cm_names.specs.Forms.{has_utf8_form_after, has_utf8_form, is_class_name_from}
-use Rattle.cm_names.specs.Forms.{is_class_name, name_after, after_class, after_field}
-use Rattle.cm_names.specs.Forms.{is_unqualified_name, is_method_name, is_field_descriptor}
-use Rattle.cm_names.specs.Forms.{parameters, method_units}
+use Rattle.cm_descriptors.specs.Forms.{has_utf8_form_after, has_utf8_form, is_class_name_from}
+use Rattle.cm_descriptors.specs.Forms.{is_class_name, name_after, after_class, after_field}
+use Rattle.cm_descriptors.specs.Forms.{is_unqualified_name, is_method_name, is_field_descriptor}
+use Rattle.cm_descriptors.specs.Forms.{parameters, method_units}
 use Rattle.cm_attributes.specs.Names.{is_known, first_place}
 use Rattle.cm_attributes.specs.Contents.{past_parts, past_many, code_of, value_kind, is_content}
 use Rattle.cm_attributes.specs.Contents.{bootstrap_count}

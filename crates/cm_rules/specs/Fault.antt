@@ -1,5 +1,5 @@
 -- The rules in their order, the spots in theirs, and the first rule that a class breaks with the
--- first spot where it does.
+-- first spot at which it does.
 use Rattle.std.specs.Prelude.{ℕ, ◌+◌, ◌-◌, Bool, true, ◌||◌, not, List, [], ◌∷◌, ◌++◌, length, map}
 use Rattle.std.specs.Prelude.{find, Option, Some, None, slice_get, option_map, ◌==◌, if◌then◌else◌}
 use Rattle.std.specs.Option.{option_map_or}
@@ -64,9 +64,9 @@ all_rules =
     ∷ rules.MethodUnits ∷ rules.MethodFlags ∷ rules.MethodTwice ∷ rules.CodeCount
     ∷ rules.CodeForm ∷ rules.MemberAttributes ∷ rules.ClassAttributes ∷ rules.BootstrapMethods ∷ []
 
--- ---- What each rule says, by the sort of spot. It says nothing of sorts that aren't listed.
+-- ---- What each rule says, by the sort of spot. It says nothing about sorts that aren't listed.
 
--- of a constant
+-- what a rule says about a constant
 unfoldable pub pool_rule : Rule → ClassFile → ClassConstant → Bool
 pool_rule rules.Utf8Form c constant = utf8_has_form constant
 pool_rule rules.EntryKinds c constant = names_kinds c constant
@@ -80,25 +80,25 @@ pool_rule rules.HandleName c constant = handle_has_name c constant
 pool_rule rules.BootstrapMethods c constant = dynamic_call_is_bound c constant
 pool_rule _ c constant = true
 
--- of the class itself
+-- what a rule says about the class itself
 unfoldable pub this_rule : Rule → ClassFile → Bool
 this_rule rules.EntryKinds c = names kinds.Class c c.this_class
 this_rule rules.ClassFlags c = class_flags_agree c.flags
 this_rule rules.ThisClass c = this_is_no_array c
 this_rule _ c = true
 
--- of the super class
+-- what a rule says about the super class
 unfoldable pub super_rule : Rule → ClassFile → Bool
 super_rule rules.EntryKinds c = c.super_class == 0 || names kinds.Class c c.super_class
 super_rule rules.SuperClass c = super_is_right c
 super_rule _ c = true
 
--- of the index of an interface
+-- what a rule says about the index of an interface
 unfoldable pub interface_rule : Rule → ClassFile → ℕ → Bool
 interface_rule rules.EntryKinds c index = names kinds.Class c index
 interface_rule _ c index = true
 
--- of a field, whatever stands before it
+-- what a rule says about a field, independently of the fields before it
 unfoldable pub field_constraint : Rule → ClassFile → Member → Bool
 field_constraint rules.EntryKinds c m = names_utf8s c m
 field_constraint rules.FieldName c m = field_is_named c m
@@ -106,12 +106,12 @@ field_constraint rules.FieldFlags c m = field_flags_agree c.flags m.flags
 field_constraint rules.MemberAttributes c m = field_attributes_are_right c m
 field_constraint _ c m = true
 
--- of a field at a place
+-- what a rule says about a field at a place
 unfoldable pub field_rule : Rule → ClassFile → ℕ → Member → Bool
 field_rule rules.FieldTwice c i m = is_first c c.fields i m
 field_rule rule c i m = field_constraint rule c m
 
--- of a method, whatever stands before it
+-- what a rule says about a method, independently of the methods before it
 unfoldable pub method_constraint : Rule → ClassFile → Member → Bool
 method_constraint rules.EntryKinds c m = names_utf8s c m
 method_constraint rules.MethodName c m = method_is_named c m
@@ -122,19 +122,19 @@ method_constraint rules.CodeForm c m = code_has_form c m
 method_constraint rules.MemberAttributes c m = method_attributes_are_right c m
 method_constraint _ c m = true
 
--- of a method at a place
+-- what a rule says about a method at a place
 unfoldable pub method_rule : Rule → ClassFile → ℕ → Member → Bool
 method_rule rules.MethodTwice c i m = is_first c c.methods i m
 method_rule rule c i m = method_constraint rule c m
 
--- of an attribute of the class at a place
+-- what a rule says about an attribute of the class at a place
 unfoldable pub attribute_rule : Rule → ClassFile → ℕ → AttributeOf → Bool
 attribute_rule rules.EntryKinds c i a = names kinds.Utf8 c a.name
 attribute_rule rules.ClassAttributes c i a = class_attribute_is_right c i a
 attribute_rule rules.BootstrapMethods c i a = bootstrap_attribute_is_right c i a
 attribute_rule _ c i a = true
 
--- a test of the item at a place, where there is one
+-- a test of the item at a place, if there is one
 abbrev pub at_item : {A : Type 0} → List A → ℕ → (A → Bool) → Bool
 at_item items i test = option_map_or test (slice_get items i) true
 
@@ -157,7 +157,7 @@ spots c =
     ++ map Method (range_with_len 0 (length c.methods))
     ++ map Attribute (range_with_len 0 (length c.attributes))
 
--- the first spot where a class breaks a rule
+-- the first spot at which a class breaks a rule
 unfoldable pub broken_spot : ClassFile → Rule → Option Spot
 broken_spot c rule = find (λ spot. not (holds rule c spot)) (spots c)
 
@@ -173,7 +173,7 @@ fault c = first_of c all_rules
 
 -- ---- The same spot, found sort by sort.
 
--- the first place where a rule fails, among the spots of one sort
+-- the first place at which a rule fails, among the spots of one sort
 abbrev pub slot_failing : ClassFile → Rule → Option ℕ
 slot_failing c rule = first_failing (λ i slot. in_slot (pool_rule rule c) slot) 0 c.slots
 

@@ -1,5 +1,5 @@
--- What one pass over a class asks of each of its parts: all that the rules say of a part of its
--- sort.
+-- What one pass over a class checks for each of its parts: everything that the rules say about a
+-- part of its sort.
 use Rattle.std.specs.Prelude.{ℕ, Bool, ◌&&◌, List, drop}
 use Rattle.std.specs.List.{list_all}
 use Rattle.cm_class.specs.declared.class_file.Attribute.{Attribute}
@@ -14,7 +14,7 @@ use Rattle.cm_constraints.specs.Members.{names_utf8s, field_is_named, method_is_
 use Rattle.cm_constraints.specs.Members.{flags_fit_method, code_count_is_right, code_has_form}
 use Rattle.cm_constraints.specs.Attributes.{field_attributes_are_right, method_attributes_are_right}
 
--- all but the first, which speaks of Utf8s alone
+-- all rules but the first, which concerns Utf8s alone
 abbrev pub later_rules : List Rule
 later_rules = drop 1 all_rules
 
@@ -30,13 +30,13 @@ super_keeps c = list_all (λ rule. super_rule rule c) all_rules
 unfoldable pub interface_keeps : ClassFile → ℕ → Bool
 interface_keeps c index = list_all (λ rule. interface_rule rule c index) all_rules
 
--- of a field, but that no other is the same
+-- the rules on a field, except that no other field is the same
 unfoldable pub field_keeps : ClassFile → Member → Bool
 field_keeps c m =
     names_utf8s c m
     && (field_is_named c m && (field_flags_agree c.flags m.flags && field_attributes_are_right c m))
 
--- of a method, but that no other is the same
+-- the rules on a method, except that no other method is the same
 unfoldable pub method_keeps : ClassFile → Member → Bool
 method_keeps c m =
     names_utf8s c m && (method_is_named c m && (units_fit c m && (flags_fit_method c m

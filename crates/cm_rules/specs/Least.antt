@@ -11,15 +11,15 @@ use Rattle.cm_rules.specs.Fault.{all_rules, holds, spots}
 abbrev pub KeepsAt : ClassFile → Rule → List Spot → Type 0
 KeepsAt c rule among = AllByRecursion (λ spot. holds rule c spot ≡ true) among
 
--- it keeps each of these rules at each of its spots
+-- the class keeps each of these rules at each of its spots
 abbrev pub KeepsEach : ClassFile → List Rule → Type 0
 KeepsEach c among = AllByRecursion (λ rule. KeepsAt c rule (spots c)) among
 
 abbrev pub KeepsRules : ClassFile → Type 0
 KeepsRules c = KeepsEach c all_rules
 
--- It breaks this rule at this spot, keeps it at all spots before that, and keeps all rules before
--- it at every spot.
+-- The class breaks this rule at this spot, keeps it at all spots before that, and keeps all rules
+-- before it at every spot.
 pub record IsFirstFault (c : ClassFile) (broken : Broken) : Type 0 where
   pub lower_rules : List Rule
   pub higher_rules : List Rule

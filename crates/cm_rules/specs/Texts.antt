@@ -1,4 +1,4 @@
--- The text of a rule that a class breaks, and of where it does.
+-- The text of a rule that a class breaks, and of the spot at which it does.
 use Rattle.std.specs.Prelude.{ℕ, List, ◌++◌, codes}
 use Rattle.std.specs.Fmt.{decimal}
 use Rattle.cm_rules.specs.declared.rule.Spot.{Spot}

@@ -2,7 +2,7 @@ use crate::rule::Broken;
 use cm_class::ShapeFault;
 use thiserror::Error;
 
-/// Why bytes are no class that keeps the rules. Places count bytes from 0.
+/// Why bytes are no class that keeps the rules. Places are byte offsets from 0.
 #[derive(Clone, Copy, Debug, PartialEq, Eq, Error)]
 pub enum ClassFault {
     /// The bytes are a proper beginning of a class file.
@@ -14,7 +14,8 @@ pub enum ClassFault {
     /// Neither: class files begin with this many of the bytes, and none with one more.
     #[error("malformed {0}")]
     Malformed(usize),
-    /// The bytes are a class file, and this is the first rule that it breaks, where it does first.
+    /// The bytes are a class file, and this is the first rule that it breaks, with the first spot
+    /// at which it does.
     #[error("{0}")]
     Rule(Broken),
     /// An allocation failed.

@@ -7,7 +7,7 @@ use cm_constraints::Subject;
 use cm_duplicates::{first_duplicate_field, first_duplicate_method};
 use std::alloc::{AllocError, Global};
 
-/// A class, with all that takes memory to find out of it.
+/// A class, with everything about it that needs an allocation to find out.
 #[derive(Drop)]
 pub(crate) struct Findings<'a> {
     pub(crate) class: &'a Class<'a>,

@@ -1,5 +1,5 @@
-//! Whether a class keeps all rules, found in one pass. Most classes do; of others the first rule
-//! that they break is looked for in order.
+//! Whether a class keeps all rules, found in one pass. Most classes do; for the others the first
+//! broken rule is searched for in order.
 ghost use Rattle.std.specs.Prelude.{◌≡◌, true, None};
 ghost use Rattle.std.specs.List.{list_all};
 ghost use Rattle.cm_duplicates.specs.Duplicates.{first_failing};
@@ -19,7 +19,7 @@ use cm_constraints::{
     method_type_is_formed, names_kinds, names_utf8s, super_is_right, this_is_no_array, units_fit,
 };
 
-/// Whether a constant keeps all rules but that on the form of Utf8s.
+/// Whether a constant keeps all rules except that on the form of Utf8s.
 #[tactic(auto, unfolding(crate::specs::Kept::constant_keeps, crate::specs::Fault::pool_rule))]
 fn constant_keeps(subject: &Subject, constant: &Constant<Bytes>) -> bool
     ensures { result ≡ constant_keeps subject.now.class.now constant.now }
@@ -106,7 +106,7 @@ fn interfaces_keep(class: &Class) -> bool
         .all(|index| interface_keeps(class, *index))
 }
 
-/// Whether a field keeps all rules but that no other is the same.
+/// Whether a field keeps all rules except that no other field is the same.
 #[tactic(auto, unfolding(crate::specs::Kept::field_keeps))]
 fn field_keeps(subject: &Subject, field: &Member) -> bool
     ensures { result ≡ field_keeps subject.now.class.now field.now }
@@ -128,7 +128,7 @@ fn fields_keep(subject: &Subject) -> bool
         .all(|field| field_keeps(subject, field))
 }
 
-/// Whether a method keeps all rules but that no other is the same.
+/// Whether a method keeps all rules except that no other method is the same.
 #[tactic(auto, unfolding(crate::specs::Kept::method_keeps))]
 fn method_keeps(subject: &Subject, method: &Member) -> bool
     ensures { result ≡ method_keeps subject.now.class.now method.now }
@@ -177,7 +177,7 @@ fn attributes_keep(class: &Class) -> bool
     true
 }
 
-/// Whether the class is seen to keep all rules.
+/// Whether the class is found to keep all rules.
 #[tactic(auto, using(crate::proofs::KeptRules::no_fault))]
 pub(crate) fn keeps_rules(findings: &Findings) -> bool
     ensures { result ≡ true → fault findings.now.class.now ≡ None }

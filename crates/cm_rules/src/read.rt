@@ -3,7 +3,7 @@ ghost use Rattle.cm_class.specs.declared.class_file.ClassFile.{ClassFile};
 ghost use Rattle.cm_rules.specs.declared.fault.ClassFault.{ClassFault};
 ghost use Rattle.cm_rules.specs.Fault.{fault, first_of, all_rules};
 ghost use Rattle.cm_class.specs.Shape.{IsSpelling};
-ghost use Rattle.cm_rules.specs.Answer.{IsRight, IsWrong, IsReading, IsUnlessRefused};
+ghost use Rattle.cm_rules.specs.Answer.{SpellsRightClass, IsClassFault, IsReading, IsUnlessRefused};
 ghost use Rattle.cm_rules.specs.Answer.{class_fault_of};
 
 use crate::fault::ClassFault;
@@ -14,7 +14,7 @@ use crate::search::broken_spot;
 use cm_class::{Class, ShapeFault, read_shape};
 use std::alloc::{AllocError, Global};
 
-/// The rules, in the order in which they are judged.
+/// The rules, in the order in which they are checked.
 const RULES: [Rule; 24] = [
     Rule::Utf8Form,
     Rule::EntryKinds,
@@ -55,10 +55,10 @@ fn first_of(findings: &Findings, rules: &[Rule]) -> Option<Broken>
     None
 }
 
-/// The first rule that a class breaks, with the first spot where it does; `None` where it keeps
-/// them all. Each Utf8 is judged once, however many constants and members name it. Only where one
-/// pass finds that the class breaks some rule is the first of them looked for. It is an `Err` only
-/// where an allocation failed, and then says nothing of the class.
+/// The first rule that a class breaks, with the first spot at which it does; `None` if it keeps all
+/// of them. Each Utf8 is checked once, however many constants and members name it. The first broken
+/// rule is searched for only if a single pass finds that the class breaks some rule. Returns an
+/// `Err` only if an allocation failed, which says nothing about the class.
 #[tactic(auto, unfolding(crate::specs::Fault::fault))]
 pub fn first_fault(alloc: Global, class: &Class) -> Result<Option<Broken>, AllocError>
     ensures { IfOk result (λ found. found ≡ fault class.now) }
@@ -94,17 +94,17 @@ fn read_and_judge<'a>(alloc: Global, bytes: &'a [u8]) -> Result<Class<'a>, Class
     }
 }
 
-/// Reads a class of version 52.0 from all of the bytes, and judges it by the rules.
+/// Reads a class of version 52.0 from all of the bytes, and checks it by the rules.
 ///
-/// It is refused exactly where the bytes spell no class file, with the one fault of their shape, or
-/// where the class breaks a rule, with the first such rule and its first spot; or with `NoMemory`,
-/// where they spell a class file and an allocation failed: a fault of their shape is told in any
-/// case.
+/// Fails exactly if the bytes spell no class file, with the one fault of their shape; if the class
+/// breaks a rule, with the first such rule and its first spot; or with `NoMemory`, if they spell a
+/// class file and an allocation failed: a fault of their shape is reported in any case.
 pub fn read_class<'a>(alloc: Global, bytes: &'a [u8]) -> Result<Class<'a>, ClassFault>
-    ensures ok { IfOk result (IsRight bytes.now) }
-    ensures fault { IfErr result (IsWrong bytes.now) }
+    ensures ok { IfOk result (SpellsRightClass bytes.now) }
+    ensures fault { IfErr result (IsClassFault bytes.now) }
 
-    // What is so is answered, unless the bytes spell a class file and an allocation failed.
+    // The result is the correct answer, unless the bytes spell a class file and an allocation
+    // failed.
     ensures only { (answer : Result ClassFile ClassFault) → IsReading bytes.now answer
         → (result ≡ answer) ⊎ ((result ≡ Err ClassFault.NoMemory) × IsSpelling bytes.now) }
 {

@@ -3,12 +3,13 @@ ghost use Rattle.cm_rules.specs.Texts.{spot_text, broken_text};
 
 use std::fmt::{self, Display, Formatter};
 
-/// The rules, in the order in which they are judged. A rule is read only where all before it hold.
+/// The rules, in the order in which they are checked. Each rule presupposes that all before it
+/// hold.
 #[derive(Clone, Copy, Debug, PartialEq, Eq)]
 pub enum Rule {
-    /// Each Utf8 has its form (JVMS 4.4.7).
+    /// Each Utf8 has the right form (JVMS 4.4.7).
     Utf8Form,
-    /// Each index names a constant of the kind that it has to name (JVMS 4.4, 4.1, 4.5, 4.6, 4.7).
+    /// Each index names a constant of the kind that it must name (JVMS 4.4, 4.1, 4.5, 4.6, 4.7).
     EntryKinds,
     /// A method handle's kind is 1 to 9, and names a reference of its sort (JVMS 4.4.8).
     HandleKind,
@@ -34,7 +35,7 @@ pub enum Rule {
     FieldName,
     /// A field's flags (JVMS 4.5, table 4.5-A).
     FieldFlags,
-    /// No two fields of one name and descriptor (JVMS 4.5).
+    /// No two fields have the same name and descriptor (JVMS 4.5).
     FieldTwice,
     /// A method's name and descriptor (JVMS 4.6).
     MethodName,
@@ -42,7 +43,7 @@ pub enum Rule {
     MethodUnits,
     /// A method's flags (JVMS 4.6, table 4.6-A).
     MethodFlags,
-    /// No two methods of one name and descriptor (JVMS 4.6).
+    /// No two methods have the same name and descriptor (JVMS 4.6).
     MethodTwice,
     /// Which methods have code (JVMS 4.7.3).
     CodeCount,
@@ -56,14 +57,14 @@ pub enum Rule {
     BootstrapMethods,
 }
 
-/// Where a rule is broken, in the order in which places are looked at.
+/// Where a rule is broken, in the order in which places are checked.
 #[derive(Clone, Copy, Debug, PartialEq, Eq)]
 pub enum Spot {
     /// The constant at this index of the pool.
     Pool(u16),
     This,
     Super,
-    /// The interface at this place, from 0 on.
+    /// The interface at this place, counted from 0.
     Interface(u16),
     Field(u16),
     Method(u16),
@@ -87,7 +88,7 @@ impl Display for Spot {
     }
 }
 
-/// A rule that a class breaks, and the first place where it does.
+/// A rule that a class breaks, and the first place at which it does.
 #[derive(Clone, Copy, Debug, PartialEq, Eq)]
 pub struct Broken {
     pub rule: Rule,

@@ -1,4 +1,4 @@
-//! Each rule by the sort of spot that it speaks of.
+//! Each rule by the sort of spot that it concerns.
 ghost use Rattle.std.specs.Prelude.{◌≡◌};
 ghost use Rattle.cm_constraints.specs.Constants.{in_slot};
 ghost use Rattle.cm_rules.specs.Fault.{pool_rule, this_rule, super_rule, interface_rule};
@@ -82,7 +82,7 @@ pub(crate) fn interface_rule(findings: &Findings, rule: Rule, index: u16) -> boo
     }
 }
 
-/// What a rule says of a field, whatever stands before it.
+/// What a rule says about a field, independently of the fields before it.
 #[tactic(auto, unfolding(crate::specs::Fault::field_constraint))]
 pub(crate) fn field_constraint(findings: &Findings, rule: Rule, field: &Member) -> bool
     ensures { result ≡ field_constraint rule findings.now.class.now field.now }
@@ -97,7 +97,7 @@ pub(crate) fn field_constraint(findings: &Findings, rule: Rule, field: &Member) 
     }
 }
 
-/// What a rule says of a method, whatever stands before it.
+/// What a rule says about a method, independently of the methods before it.
 #[tactic(auto, unfolding(crate::specs::Fault::method_constraint))]
 pub(crate) fn method_constraint(findings: &Findings, rule: Rule, method: &Member) -> bool
     ensures { result ≡ method_constraint rule findings.now.class.now method.now }

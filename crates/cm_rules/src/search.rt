@@ -1,4 +1,4 @@
-//! The first spot where a class breaks a rule.
+//! The first spot at which a class breaks a rule.
 ghost use Rattle.std.specs.Prelude.{◌≡◌, ◌+◌, ◌<◌, ◌^◌, false, true, IfSome};
 ghost use Rattle.cm_class.specs.declared.class_file.ClassFile.{ClassFile};
 ghost use Rattle.cm_class.specs.Spelling.{ClassConstant};
@@ -96,7 +96,7 @@ fn first_attribute(findings: &Findings, rule: Rule) -> Option<u16>
     None
 }
 
-/// The first interface, field, method or attribute where the class breaks the rule.
+/// The first interface, field, method or attribute at which the class breaks the rule.
 #[tactic(auto, unfolding(crate::specs::Fault::item_spot))]
 fn item_spot(findings: &Findings, rule: Rule) -> Option<Spot>
     ensures { result ≡ item_spot findings.now.class.now rule }
@@ -127,7 +127,7 @@ fn own_spot(findings: &Findings, rule: Rule) -> Option<Spot>
     None
 }
 
-/// Whether a rule speaks of constants of the pool.
+/// Whether a rule concerns constants of the pool.
 #[tactic(auto, unfolding(crate::specs::Fault::pool_rule))]
 fn speaks_of_pool(rule: Rule) -> bool
     ensures { result ≡ false → (c : ClassFile) (k : ClassConstant) → pool_rule rule c k ≡ true }
@@ -147,8 +147,8 @@ fn speaks_of_pool(rule: Rule) -> bool
     }
 }
 
-/// The place of the first constant that breaks the rule. Pools are long, so most rules look at
-/// none.
+/// The place of the first constant that breaks the rule. Pools are long, so a rule that concerns no
+/// constants checks none.
 fn pool_place(findings: &Findings, rule: Rule) -> Option<u16>
     ensures place { result ≡ slot_failing findings.now.class.now rule }
     ensures within { IfSome result (λ place. place + 1 < 2 ^ 16) }
@@ -172,7 +172,7 @@ fn found_spot(findings: &Findings, rule: Rule) -> Option<Spot>
     item_spot(findings, rule)
 }
 
-/// The first spot where the class breaks the rule.
+/// The first spot at which the class breaks the rule.
 pub(crate) fn broken_spot(findings: &Findings, rule: Rule) -> Option<Spot>
     ensures { result ≡ broken_spot findings.now.class.now rule }
 {

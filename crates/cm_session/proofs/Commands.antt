@@ -6,17 +6,17 @@ use Rattle.std.specs.Prelude.{◌⊎◌}
 use Rattle.cm_class.specs.declared.class_file.ClassFile.{ClassFile}
 use Rattle.cm_record.specs.Layout.{limit}
 use Rattle.cm_group.specs.Groups.{Carried, Handed, IsRightRecord}
-use Rattle.cm_prepare.specs.declared.refusal.Refusal.{Refusal}
-use Rattle.cm_prepare.specs.declared.refusal.Refusal.TheVariants as refusal
+use Rattle.cm_commands.specs.declared.refusal.Refusal.{Refusal}
+use Rattle.cm_commands.specs.declared.refusal.Refusal.TheVariants as refusal
 use Rattle.cm_state.specs.State.{words_show, state_of, class_in}
 use Rattle.cm_state.specs.Step.{Change, Define}
 use Rattle.cm_front.specs.Front.{FrontState, IsFront}
 use Rattle.cm_front.specs.Accepting.{FrontAnswers}
 use Rattle.cm_commit.specs.States.{CommitterState}
-use Rattle.cm_machine.specs.Handover.{AcceptedIsAhead}
-use Rattle.cm_machine.specs.Machine.{Machine, Asks, Accepts, Refuses}
-use Rattle.cm_machine.specs.Laws.{AcceptedIsMade, RefusedIsRefused, IsAccepted, FoundIsThere}
-use Rattle.cm_machine.specs.Laws.{Finds, Behind}
+use Rattle.cm_handover.specs.Handover.{AcceptedIsAhead}
+use Rattle.cm_commands.specs.Machine.{Machine, Asks, Accepts, Refuses}
+use Rattle.cm_handover.specs.Laws.{AcceptedIsMade, RefusedIsRefused, IsAccepted, FoundIsThere}
+use Rattle.cm_handover.specs.Laws.{Finds, Behind}
 use Rattle.cm_session.specs.Session.{of_underway, commands_of, IsSession}
 use Rattle.cm_session.specs.Moves.{Accepting, IsAsked}
 use Rattle.cm_session.proofs.Learnt.{learnt_accepted}
@@ -59,11 +59,11 @@ module _ {D : Type 0} (made : AcceptedIsMade) (refused : RefusedIsRefused) (ahea
   abbrev out : List Carried
   out = commands_of (of_underway committer.underway ++ queue)
 
-  abbrev Goes : Machine → Type 0
-  Goes next = IsSession next new committer queue sealed failed
+  abbrev Matching : Machine → Type 0
+  Matching next = IsSession next new committer queue sealed failed
 
   was_accepted : (n : ℕ) → FrontAnswers front asked (Ok n) new
-      → Accepting committer.sizes k asked (Ok n) Goes
+      → Accepting committer.sizes k asked (Ok n) Matching
   was_accepted n answer =
       let behind : Behind =
       record { rows = committer.rows; number = committer.number; out = out } in
@@ -74,13 +74,13 @@ module _ {D : Type 0} (made : AcceptedIsMade) (refused : RefusedIsRefused) (ahea
       record {
         change = m.change;
         asks = m.asks;
-        leads = record {
+        reaches = record {
           next = m.next;
           does = (
             i.noticed_is ∙ m.whole,
             subst (λ z. Accepts z k m.change n m.next) i.sizes m.accepts,
           );
-          goes = record {
+          matches = record {
             is = is_new;
             sizes = ap (λ (s : FrontState). s.sizes) same ∙ i.sizes;
             running = ap (λ (s : FrontState). s.closed) same ∙ i.running;
@@ -107,14 +107,14 @@ module _ {D : Type 0} (made : AcceptedIsMade) (refused : RefusedIsRefused) (ahea
       }
 
   was_refused : (r : Refusal) → FrontAnswers front asked (Err r) new
-      → Accepting committer.sizes k asked (Err r) Goes
+      → Accepting committer.sizes k asked (Err r) Matching
   was_refused r answer = record {
     change = change;
     asks = asks;
-    leads = record {
+    reaches = record {
       next = k;
       does = (refl, reason);
-      goes = subst (λ s. IsSession k s committer queue sealed failed) (sym answer.0) i;
+      matches = subst (λ s. IsSession k s committer queue sealed failed) (sym answer.0) i;
     };
   }
     where
@@ -136,6 +136,6 @@ module _ {D : Type 0} (made : AcceptedIsMade) (refused : RefusedIsRefused) (ahea
           open_and_closed false is_open is_closed = absurd (cc)
 
   pub answers : (result : Result ℕ Refusal) → FrontAnswers front asked result new
-      → Accepting committer.sizes k asked result Goes
+      → Accepting committer.sizes k asked result Matching
   answers (Ok n) answer = was_accepted n answer
   answers (Err r) answer = was_refused r answer

@@ -12,15 +12,15 @@ use Rattle.cm_commit.specs.States.{CommitterState}
 use Rattle.cm_front.specs.Front.{FrontState, IsFront}
 use Rattle.cm_front.specs.Accepting.{HandsOut, with_learnt}
 use Rattle.cm_front.specs.Unsealed.{Follow}
-use Rattle.cm_machine.specs.Ahead.{IsAhead, pending}
-use Rattle.cm_machine.specs.Handover.{HandedIsAhead, LearntIsAhead, FailedIsAhead}
-use Rattle.cm_machine.specs.Following.{Follows}
-use Rattle.cm_machine.specs.Laws.{CommandsAreCounted, FollowsFront}
+use Rattle.cm_handover.specs.Ahead.{IsAhead, pending}
+use Rattle.cm_handover.specs.Handover.{HandedIsAhead, LearntIsAhead, FailedIsAhead}
+use Rattle.cm_handover.specs.Following.{Follows}
+use Rattle.cm_handover.specs.Laws.{CommandsAreCounted, FollowsFront}
 use Rattle.cm_state.specs.State.{class_shows, state_of}
-use Rattle.cm_machine.specs.Machine.{Base, Machine, Holds, Seals, accepted_to}
-use Rattle.cm_session.specs.Session.{of_underway, commands_of, GoBehind, IsAheadOfLearnt}
+use Rattle.cm_commands.specs.Machine.{Base, Machine, Holds, Seals, accepted_to}
+use Rattle.cm_session.specs.Session.{of_underway, commands_of, AreConsecutive, IsAheadOfLearnt}
 use Rattle.cm_session.specs.Session.{IsSession}
-use Rattle.cm_session.specs.Moves.{Leads, Learns}
+use Rattle.cm_session.specs.Moves.{ReachesMachine, Learns}
 use Rattle.cm_group.proofs.{enough}
 use Rattle.cm_session.proofs.Learnt.{all_learnt, learnt_handed}
 use Rattle.cm_session.proofs.Queued.{commands_more, behind_more}
@@ -43,7 +43,7 @@ same_commands sizes k j base same f = record {
   make = f.make;
 }
 
--- an answer that is Ok has what is said of it then
+-- a result that is Ok has what holds of it in that case
 pub on_ok : {A E P : Type 0} (r : Result A E) → IsOk r → OnOk r P → P
 on_ok (Ok x) is p = p
 on_ok (Err e) is p = absurd (cc)
@@ -54,7 +54,7 @@ on_err (Err e) is p = p
 
 -- ---- what isn't handed out yet
 
-no_commands : (n : ℕ) (groups : List Handed) → GoBehind n groups
+no_commands : (n : ℕ) (groups : List Handed) → AreConsecutive n groups
     → length (commands_of groups) ≡ 0 → groups ≡ []
 no_commands n [] behind none = refl
 no_commands n (group ∷ groups) behind none =
@@ -93,7 +93,7 @@ module _ {D : Type 0} (counted : CommandsAreCounted) (k : Machine) (front : Fron
       (commands_of front.unsealed) in
       omega (arith, differ, all, is, told, numbers, handed, long)
 
-  -- what was handed out is stored, so none of it waits
+  -- what was handed out is durable, so none of it waits
   pub none_queued : k.acknowledged ≡ k.sealed → queue ≡ []
   none_queued same =
       let stored = i.acknowledged_is in
@@ -198,7 +198,7 @@ module _ {D : Type 0} (counted : CommandsAreCounted) (handed : HandedIsAhead) (k
       let more = length-append (out ++ group.entries) (commands_of new.unsealed) in
       omega (arith, all, numbers, then, sealed, after, long, more)
 
-  pub hands : Leads (λ (j : Machine). Seals k group.first last j)
+  pub hands : ReachesMachine (λ (j : Machine). Seals k group.first last j)
       (λ j. IsSession j new committer (queue ++ group ∷ []) last failed)
   hands = record {
     next = next;
@@ -214,11 +214,11 @@ module _ {D : Type 0} (counted : CommandsAreCounted) (handed : HandedIsAhead) (k
       known = all_known;
       next_is = refl;
     };
-    goes = record {
+    matches = record {
       is = is_new;
       sizes = ap (λ (s : FrontState). s.sizes) h.after ∙ i.sizes;
       running = ap (λ (s : FrontState). s.closed) h.after ∙ i.running;
-      groups = subst (GoBehind committer.number) (sym groups_are)
+      groups = subst (AreConsecutive committer.number) (sym groups_are)
           (behind_more committer.number groups group i.groups
           (let first = first_is in
           let sealed = i.ahead.sealed in
@@ -243,14 +243,14 @@ module _ {D : Type 0} (counted : CommandsAreCounted) (handed : HandedIsAhead) (k
 
   pub hands_as : (first to : ℕ) (behind : List Handed) → first ≡ group.first → to ≡ last
       → behind ≡ queue ++ group ∷ []
-      → Leads (λ (j : Machine). Seals k first to j)
+      → ReachesMachine (λ (j : Machine). Seals k first to j)
       (λ j. IsSession j new committer behind to failed)
   hands_as first to behind first_same to_same behind_same =
-      subst (λ q. Leads (λ (j : Machine). Seals k first to j)
+      subst (λ q. ReachesMachine (λ (j : Machine). Seals k first to j)
       (λ j. IsSession j new committer q to failed)) (sym behind_same)
-      (subst (λ n. Leads (λ (j : Machine). Seals k first n j)
+      (subst (λ n. ReachesMachine (λ (j : Machine). Seals k first n j)
       (λ j. IsSession j new committer (queue ++ group ∷ []) n failed)) (sym to_same)
-      (subst (λ n. Leads (λ (j : Machine). Seals k n last j)
+      (subst (λ n. ReachesMachine (λ (j : Machine). Seals k n last j)
       (λ j. IsSession j new committer (queue ++ group ∷ []) last failed)) (sym first_same) hands))
 
 -- ---- learning
@@ -287,11 +287,12 @@ module _ {D : Type 0} (frees : LearntIsAhead) (fails : FailedIsAhead) (k : Machi
 
   pub learns : (broken : Bool) → k.noticed || k.failed ≡ broken
       → new ≡ with_learnt (record front { broken = broken }) committer.number
-      → Leads (Learns k committer.number) (λ j. IsSession j new committer queue sealed failed)
+      → ReachesMachine (Learns k committer.number)
+      (λ j. IsSession j new committer queue sealed failed)
   learns broken told after = record {
     next = next;
     does = record { number_is = sym i.acknowledged_is; next_is = refl };
-    goes = record {
+    matches = record {
       is = is_new;
       sizes = ap (λ (s : FrontState). s.sizes) after ∙ i.sizes;
       running = ap (λ (s : FrontState). s.closed) after ∙ i.running;

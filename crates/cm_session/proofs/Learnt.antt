@@ -1,4 +1,4 @@
--- What the accepted cache has learnt to be stored, and what was stored since.
+-- What the accepted cache has learnt to be durable, and what was stored since.
 -- For `Session::accept`, `Session::advance`, `Session::learn`, `Session::offer_next`,
 -- `Session::seal`.
 use Rattle.std.proofs.Common.{◌≡◌, ℕ, ◌+◌, List, [], ◌++◌, length, refl, sym, ap, subst, ◌∙◌}
@@ -10,9 +10,9 @@ use Rattle.cm_state.specs.Step.{Change}
 use Rattle.cm_commit.specs.Offers.{rows_after_group}
 use Rattle.cm_front.specs.Front.{FrontState, IsFront}
 use Rattle.cm_front.specs.Accepting.{FrontAnswers, HandsOut}
-use Rattle.cm_machine.specs.Ahead.{IsAhead}
-use Rattle.cm_machine.specs.Handover.{AcceptedIsAhead, HandedIsAhead}
-use Rattle.cm_machine.proofs.{rows_after_two}
+use Rattle.cm_handover.specs.Ahead.{IsAhead}
+use Rattle.cm_handover.specs.Handover.{AcceptedIsAhead, HandedIsAhead}
+use Rattle.cm_handover.proofs.{rows_after_two}
 use Rattle.cm_session.specs.Session.{IsAheadOfLearnt}
 
 module _ (rows : List (Row (List ℕ))) (number : ℕ) (out : List Carried) (front : FrontState) where

@@ -1,4 +1,4 @@
--- A file is opened that stands for some of the machine's commands.
+-- Opening a file that stands for some of the machine's commands.
 -- For `open`.
 use Rattle.std.proofs.Common.{◌≡◌, ℕ, ◌-◌, ◌≤◌, List, [], ◌∷◌, take, drop, refl}
 use Rattle.std.proofs.Common.{sym, ap, subst}
@@ -24,22 +24,22 @@ use Rattle.cm_front.specs.Front.{FrontState, IsFront}
 use Rattle.cm_recover.specs.declared.fault.OpenFault.{OpenFault}
 use Rattle.cm_recover.specs.declared.fault.OpenFault.TheVariants as open_fault
 use Rattle.cm_recover.specs.Opening.{IsFaultIn}
-use Rattle.cm_recover.specs.Opened.{Opens, AreShort, IsOpened}
+use Rattle.cm_recover.specs.Opened.{Opens, AreShort, OpensStanding}
 use Rattle.cm_recover.proofs.{are_short, opened}
-use Rattle.cm_machine.specs.Handover.{OpenedIsAhead}
-use Rattle.cm_machine.specs.Machine.{Base, Machine, Reopens, Holds, commands_to}
-use Rattle.cm_machine.specs.Machine.{machine_from}
-use Rattle.cm_machine.specs.Following.{AreRightClasses, AreClasses, Follows}
-use Rattle.cm_machine.specs.Laws.{OpenedFollows, IsAfter, FollowsFront}
+use Rattle.cm_handover.specs.Handover.{OpenedIsAhead}
+use Rattle.cm_commands.specs.Machine.{Base, Machine, Reopens, Holds, commands_to}
+use Rattle.cm_commands.specs.Machine.{machine_from}
+use Rattle.cm_handover.specs.Following.{AreRightClasses, AreClasses, Follows}
+use Rattle.cm_handover.specs.Laws.{OpenedFollows, IsAfter, FollowsFront}
 use Rattle.cm_commit.specs.Offers.{filled}
-use Rattle.cm_machine.specs.Ahead.{IsAhead, pending}
-use Rattle.cm_machine.proofs.{bare_words}
+use Rattle.cm_handover.specs.Ahead.{IsAhead, pending}
+use Rattle.cm_handover.proofs.{bare_words}
 use Rattle.cm_session.specs.Images.{StandsFor, StandsForSome}
 use Rattle.cm_session.specs.Session.{IsSession, commands_of}
-use Rattle.cm_session.specs.Moves.{Leads, Reopening, IsOutside}
+use Rattle.cm_session.specs.Moves.{ReachesMachine, Reopening, IsOutside}
 use Rattle.cm_session.proofs.Learnt.{all_learnt}
 
--- each class is right, where its record isn't longer than any may be
+-- each class is right, if its record isn't longer than the limit
 are_right : (classes : List (Row ClassFile)) → EachKeepsRules classes
     → AreShort (rows_with lay classes) → AreRightClasses classes
 are_right [] kept short = tt
@@ -69,7 +69,7 @@ module _ {D : Type 0} (one : StandForOne) (live : FoundIsLive) (framed : FoundIs
   p : Proves contents s
   p = proves contents s o.verdict_is
 
-  file : IsOpened contents s rows
+  file : OpensStanding contents s rows
   file = opened live framed proves tells contents s o.verdict_is
 
   same : (s.found.sizes ≡ sizes)
@@ -131,7 +131,7 @@ module _ {D : Type 0} (one : StandForOne) (live : FoundIsLive) (framed : FoundIs
   }
   front_is = o.front_is.front_is
 
-  pub reopened : Leads (Reopening sizes k contents)
+  pub reopened : ReachesMachine (Reopening sizes k contents)
       (λ j. IsSession j front committer [] committer.number false)
   reopened = record {
     next = next;
@@ -144,7 +144,7 @@ module _ {D : Type 0} (one : StandForOne) (live : FoundIsLive) (framed : FoundIs
       };
       stands = subst (λ n. StandsFor sizes k n contents) (sym number_is) some.stands;
     };
-    goes = subst (λ (c : CommitterState D). IsSession next front c [] c.number false)
+    matches = subst (λ (c : CommitterState D). IsSession next front c [] c.number false)
         (sym o.committer_is) (record {
           is = is;
           sizes = ap (λ (f : FrontState). f.sizes) front_is;

@@ -16,14 +16,14 @@ use Rattle.cm_guards.specs.Calls.{LeavesOnly}
 use Rattle.cm_state.specs.State.{class_shows, state_of}
 use Rattle.cm_state.specs.Stands.{EachKeepsRules, arenas_among}
 use Rattle.cm_commit.specs.Offers.{filled, rows_after_group}
-use Rattle.cm_guards.specs.Stages.{Stage, Store, Turn, Settle, Cut, turned, leaves}
+use Rattle.cm_guards.specs.Stages.{Stage, Store, Turn, MakeDurable, Cut, turned, leaves}
 use Rattle.cm_commit.specs.States.{Work, Storing, Trimming, CommitterState, ShowsCache, ShowsWith}
 use Rattle.cm_commit.specs.States.{MayLeave}
 use Rattle.cm_front.specs.Front.{FrontState}
-use Rattle.cm_machine.specs.Ahead.{pending}
-use Rattle.cm_machine.specs.Machine.{Machine, accepted_to}
-use Rattle.cm_machine.specs.Following.{AreRightClasses, Follows}
-use Rattle.cm_machine.specs.Laws.{CommittedFollows, CommandsAreCounted, RowsAreAfter, IsAfter}
+use Rattle.cm_handover.specs.Ahead.{pending}
+use Rattle.cm_commands.specs.Machine.{Machine, accepted_to}
+use Rattle.cm_handover.specs.Following.{AreRightClasses, Follows}
+use Rattle.cm_handover.specs.Laws.{CommittedFollows, CommandsAreCounted, RowsAreAfter, IsAfter}
 use Rattle.cm_session.specs.Images.{StandsFor, StandsForSome}
 use Rattle.cm_session.specs.Session.{of_underway, commands_of, IsSession}
 
@@ -66,7 +66,7 @@ either : (left : List Stage) (before after : List ℕ → Type 0) (image : List 
 either [] before after image l = inl l
 either (Store writes ∷ stages) before after image l = inl l
 either (Turn gate byte ∷ stages) before after image l = at_gate stages before after image l
-either (Settle ∷ stages) before after image l = at_gate stages before after image l
+either (MakeDurable ∷ stages) before after image l = at_gate stages before after image l
 either (Cut len ∷ stages) before after image l = inl l
 
 module _ {D : Type 0} (committed : CommittedFollows) (counted : CommandsAreCounted)

@@ -12,38 +12,39 @@ use Rattle.cm_commit.specs.declared.progress.Progress.TheVariants.{Idle, Working
 use Rattle.cm_commit.specs.declared.progress.AdvanceFault.TheVariants.{Device, Broken}
 use Rattle.cm_guards.specs.Stages.{Stage, calls_left, after_call}
 use Rattle.cm_commit.specs.Offers.{filled, rows_after_group, MayCome}
-use Rattle.cm_commit.specs.States.{Work, Storing, CommitterState, Takes, with_taken}
+use Rattle.cm_commit.specs.States.{Work, Storing, CommitterState, TakesGroup, with_taken}
 use Rattle.cm_commit.specs.States.{with_trim, BeginsTrim}
 use Rattle.cm_commit.specs.declared.progress.Progress.{Progress}
 use Rattle.cm_commit.specs.declared.progress.AdvanceFault.{AdvanceFault}
-use Rattle.cm_commit.specs.Advances.{Rests, Works, Finishes, Trims, Breaks, StaysBroken}
+use Rattle.cm_commit.specs.Advances.{Rests, Works, Finishes, Trims, CallFails, StaysBroken}
 use Rattle.cm_commit.specs.Advances.{Advances}
 use Rattle.cm_guards.proofs.{one_call_less}
 use Rattle.cm_front.specs.Front.{FrontState}
-use Rattle.cm_machine.specs.Ahead.{IsAhead, pending}
-use Rattle.cm_machine.specs.Handover.{CommittedIsAhead, HandedMayBeNext, MayBeNext}
-use Rattle.cm_machine.specs.Following.{Follows}
-use Rattle.cm_machine.specs.Laws.{CommittedFollows, FollowsFront}
-use Rattle.cm_machine.specs.Machine.{Machine}
-use Rattle.cm_session.specs.Session.{of_underway, commands_of, GoBehind, NoneGoesOn, IsBusyWith}
+use Rattle.cm_handover.specs.Ahead.{IsAhead, pending}
+use Rattle.cm_handover.specs.Handover.{CommittedIsAhead, HandedMayBeNext, MayBeNext}
+use Rattle.cm_handover.specs.Following.{Follows}
+use Rattle.cm_handover.specs.Laws.{CommittedFollows, FollowsFront}
+use Rattle.cm_commands.specs.Machine.{Machine}
+use Rattle.cm_session.specs.Session.{of_underway, commands_of, AreConsecutive, NoneContinues}
+use Rattle.cm_session.specs.Session.{IsBusyWith}
 use Rattle.cm_session.specs.Session.{IsAheadOfLearnt, IsSession}
-use Rattle.cm_session.specs.Moves.{Leads, Advancing, is_device, MayTake}
+use Rattle.cm_session.specs.Moves.{ReachesMachine, Advancing, is_device, MayTake}
 use Rattle.cm_session.proofs.Learnt.{learnt_committed}
 use Rattle.cm_session.proofs.Handing.{same_commands}
 
 -- ---- what is taken
 
--- no steps are left of a committer that isn't broken
+-- a committer that isn't broken has no steps left
 pub no_calls : (broken : Bool) (calls n : ℕ) → n ≡ cond broken 0 calls → broken ≡ false → n ≡ 0
     → calls ≡ 0
 no_calls true calls n same sound none = absurd (cc)
 no_calls false calls n same sound none = omega (arith, same, none)
 
--- no step is left of this committer, to which a group is offered
+-- a committer to which a group is offered has no step left
 pub may_take : {D : Type 0} {E : Type 0} (view : View D) (waiting : List Handed)
     (old new : CommitterState D) (group : Handed) (calls : ℕ)
-    → calls ≡ cond old.broken 0 (calls_left old.left) → calls ≡ 0 → NoneGoesOn group waiting
-    → (result : Result (Unit {0}) E) → (IsOk result ↔ Takes old group)
+    → calls ≡ cond old.broken 0 (calls_left old.left) → calls ≡ 0 → NoneContinues group waiting
+    → (result : Result (Unit {0}) E) → (IsOk result ↔ TakesGroup old group)
     → OnOk result (new ≡ with_taken view old group) → OnErr result (new ≡ old)
     → MayTake view waiting old new
 may_take view waiting old new group calls counted none all (Ok x) takes taken same =
@@ -79,11 +80,11 @@ module _ {D : Type 0} (k : Machine) (front : FrontState) (old new : CommitterSta
   -- ---- nothing is left
 
   pub rests : (old.underway ≡ None → queue ≡ []) → Rests old new
-      → Leads (Advancing k (Ok Idle)) (λ j. IsSession j front new queue sealed failed)
+      → ReachesMachine (Advancing k (Ok Idle)) (λ j. IsSession j front new queue sealed failed)
   rests empty r = record {
     next = k;
     does = (i.failed_is ∙ r.sound, all, refl);
-    goes = subst (λ c. IsSession k front c queue sealed failed) (sym r.stays) i;
+    matches = subst (λ c. IsSession k front c queue sealed failed) (sym r.stays) i;
   }
     where
       none : old.underway ≡ None
@@ -105,11 +106,11 @@ module _ {D : Type 0} (k : Machine) (front : FrontState) (old new : CommitterSta
   -- ---- a call is made
 
   pub works : Works old new
-      → Leads (Advancing k (Ok Working)) (λ j. IsSession j front new queue sealed failed)
+      → ReachesMachine (Advancing k (Ok Working)) (λ j. IsSession j front new queue sealed failed)
   works w = record {
     next = k;
     does = (i.failed_is ∙ w.sound, refl);
-    goes = subst (λ c. IsSession k front c queue sealed failed) (sym w.new_is) (record {
+    matches = subst (λ c. IsSession k front c queue sealed failed) (sym w.new_is) (record {
       is = i.is;
       sizes = i.sizes;
       running = i.running;
@@ -131,7 +132,8 @@ module _ {D : Type 0} (k : Machine) (front : FrontState) (old new : CommitterSta
 
   pub finishes : CommittedIsAhead → CommittedFollows → (receipt : Receipt)
       → Finishes old receipt new
-      → Leads (Advancing k (Ok (Done receipt))) (λ j. IsSession j front new queue sealed failed)
+      → ReachesMachine (Advancing k (Ok (Done receipt)))
+      (λ j. IsSession j front new queue sealed failed)
   finishes next_ahead committed receipt f = record {
     next = next;
     does = (
@@ -151,7 +153,7 @@ module _ {D : Type 0} (k : Machine) (front : FrontState) (old new : CommitterSta
         next_is = refl;
       },
     );
-    goes = subst (λ c. IsSession next front c queue sealed failed) (sym f.new_is) (record {
+    matches = subst (λ c. IsSession next front c queue sealed failed) (sym f.new_is) (record {
       is = i.is;
       sizes = i.sizes;
       running = i.running;
@@ -178,8 +180,8 @@ module _ {D : Type 0} (k : Machine) (front : FrontState) (old new : CommitterSta
       next : Machine
       next = record k { acknowledged = receipt.number }
 
-      behind : GoBehind old.number (group ∷ queue)
-      behind = subst (λ u. GoBehind old.number (of_underway u ++ queue)) f.underway i.groups
+      behind : AreConsecutive old.number (group ∷ queue)
+      behind = subst (λ u. AreConsecutive old.number (of_underway u ++ queue)) f.underway i.groups
 
       ahead : IsAhead old.rows old.number (group.entries ++ commands_of queue) front
       ahead =
@@ -208,17 +210,18 @@ module _ {D : Type 0} (k : Machine) (front : FrontState) (old new : CommitterSta
 
   -- ---- the last call of a trim is made
 
-  -- without the trim
+  -- the session once a trim is done
   pub trims : (roots : ℕ) → Trims old roots new
-      → Leads (Advancing k (Ok (Trimmed roots))) (λ j. IsSession j front new queue sealed failed)
+      → ReachesMachine (Advancing k (Ok (Trimmed roots)))
+      (λ j. IsSession j front new queue sealed failed)
   trims roots t = record {
     next = k;
     does = (i.failed_is ∙ t.sound, refl);
-    goes = subst (λ c. IsSession k front c queue sealed failed) (sym t.new_is) (record {
+    matches = subst (λ c. IsSession k front c queue sealed failed) (sym t.new_is) (record {
       is = i.is;
       sizes = i.sizes;
       running = i.running;
-      groups = subst (λ u. GoBehind old.number (of_underway u ++ queue)) t.underway i.groups;
+      groups = subst (λ u. AreConsecutive old.number (of_underway u ++ queue)) t.underway i.groups;
       busy = refl;
       ahead = subst (λ u. IsAhead old.rows old.number (commands_of (of_underway u ++ queue)) front)
           t.underway i.ahead;
@@ -235,7 +238,7 @@ module _ {D : Type 0} (k : Machine) (front : FrontState) (old new : CommitterSta
     });
   }
 
-  -- with one more
+  -- the session once a trim has begun
   pub begins_trim : old.underway ≡ None → new ≡ with_trim old
       → IsSession k front new queue sealed failed
   begins_trim none is =
@@ -243,7 +246,7 @@ module _ {D : Type 0} (k : Machine) (front : FrontState) (old new : CommitterSta
         is = i.is;
         sizes = i.sizes;
         running = i.running;
-        groups = subst (λ u. GoBehind old.number (of_underway u ++ queue)) none i.groups;
+        groups = subst (λ u. AreConsecutive old.number (of_underway u ++ queue)) none i.groups;
         busy = omega arith;
         ahead = subst (λ u. IsAhead old.rows old.number (commands_of (of_underway u ++ queue))
             front) none i.ahead;
@@ -261,12 +264,12 @@ module _ {D : Type 0} (k : Machine) (front : FrontState) (old new : CommitterSta
 
   -- ---- a call fails
 
-  pub breaks : Breaks old new
-      → Leads (Advancing k (Err Device)) (λ j. IsSession j front new queue sealed true)
+  pub breaks : CallFails old new
+      → ReachesMachine (Advancing k (Err Device)) (λ j. IsSession j front new queue sealed true)
   breaks b = record {
     next = next;
     does = (i.failed_is ∙ b.sound, refl);
-    goes = subst (λ c. IsSession next front c queue sealed true) (sym b.new_is) (record {
+    matches = subst (λ c. IsSession next front c queue sealed true) (sym b.new_is) (record {
       is = i.is;
       sizes = i.sizes;
       running = i.running;
@@ -288,11 +291,11 @@ module _ {D : Type 0} (k : Machine) (front : FrontState) (old new : CommitterSta
       next = record k { failed = true }
 
   pub stays : StaysBroken old new
-      → Leads (Advancing k (Err Broken)) (λ j. IsSession j front new queue sealed failed)
+      → ReachesMachine (Advancing k (Err Broken)) (λ j. IsSession j front new queue sealed failed)
   stays s = record {
     next = k;
     does = (i.failed_is ∙ s.broken, refl);
-    goes = subst (λ c. IsSession k front c queue sealed failed) (sym s.stays) i;
+    matches = subst (λ c. IsSession k front c queue sealed failed) (sym s.stays) i;
   }
 
 -- ---- whichever it is
@@ -310,29 +313,32 @@ pub advanced : {D : Type 0} (next_ahead : CommittedIsAhead) (committed : Committ
     (sealed : ℕ) (failed : Bool) → IsSession k front old queue sealed failed
     → (failed ≡ false → old.underway ≡ None → queue ≡ [])
     → (result : Result Progress AdvanceFault) → Advances old result new
-    → Leads (Advancing k result)
+    → ReachesMachine (Advancing k result)
     (λ j. IsSession j front new queue sealed (failed || is_device result))
 advanced next_ahead committed k front old new queue sealed failed i empty (Ok Idle) r =
-    subst (λ b. Leads (Advancing k (Ok Idle)) (λ j. IsSession j front new queue sealed b))
+    subst (λ b. ReachesMachine (Advancing k (Ok Idle)) (λ j. IsSession j front new queue sealed b))
     (sym (or_false failed))
     (rests k front old new queue sealed failed i (empty (i.failed_told ∙ r.sound)) r)
 advanced next_ahead committed k front old new queue sealed failed i empty (Ok Working) w =
-    subst (λ b. Leads (Advancing k (Ok Working)) (λ j. IsSession j front new queue sealed b))
+    subst (λ b. ReachesMachine (Advancing k (Ok Working))
+    (λ j. IsSession j front new queue sealed b))
     (sym (or_false failed)) (works k front old new queue sealed failed i w)
 advanced next_ahead committed k front old new queue sealed failed i empty (Ok (Done receipt)) f =
-    subst (λ b. Leads (Advancing k (Ok (Done receipt)))
+    subst (λ b. ReachesMachine (Advancing k (Ok (Done receipt)))
     (λ j. IsSession j front new queue sealed b))
     (sym (or_false failed))
     (finishes k front old new queue sealed failed i next_ahead committed receipt f)
 advanced next_ahead committed k front old new queue sealed failed i empty (Ok (Trimmed roots)) t =
-    subst (λ b. Leads (Advancing k (Ok (Trimmed roots)))
+    subst (λ b. ReachesMachine (Advancing k (Ok (Trimmed roots)))
     (λ j. IsSession j front new queue sealed b))
     (sym (or_false failed)) (trims k front old new queue sealed failed i roots t)
 advanced next_ahead committed k front old new queue sealed failed i empty (Err Device) b =
-    subst (λ t. Leads (Advancing k (Err Device)) (λ j. IsSession j front new queue sealed t))
+    subst (λ t. ReachesMachine (Advancing k (Err Device))
+    (λ j. IsSession j front new queue sealed t))
     (sym (or_true failed)) (breaks k front old new queue sealed failed i b)
 advanced next_ahead committed k front old new queue sealed failed i empty (Err Broken) s =
-    subst (λ b. Leads (Advancing k (Err Broken)) (λ j. IsSession j front new queue sealed b))
+    subst (λ b. ReachesMachine (Advancing k (Err Broken))
+    (λ j. IsSession j front new queue sealed b))
     (sym (or_false failed)) (stays k front old new queue sealed failed i s)
 
 -- ---- the next group is taken
@@ -352,11 +358,11 @@ module _ {D : Type 0} (next : HandedMayBeNext) (k : Machine) (front : FrontState
     (group : Handed) (i : IsSession k front committer queue sealed failed)
     (none : committer.underway ≡ None)
     (same : commands_of (group ∷ rest) ≡ commands_of queue)
-    (joined : (n : ℕ) → GoBehind n queue → GoBehind n (group ∷ rest)) where
-  behind : GoBehind committer.number (group ∷ rest)
+    (joined : (n : ℕ) → AreConsecutive n queue → AreConsecutive n (group ∷ rest)) where
+  behind : AreConsecutive committer.number (group ∷ rest)
   behind =
       joined committer.number
-      (subst (λ u. GoBehind committer.number (of_underway u ++ queue)) none i.groups)
+      (subst (λ u. AreConsecutive committer.number (of_underway u ++ queue)) none i.groups)
 
   out : commands_of (of_underway committer.underway ++ queue) ≡ commands_of (group ∷ rest)
   out = ap (λ (u : Option Work). commands_of (of_underway u ++ queue)) none ∙ sym same
@@ -369,8 +375,8 @@ module _ {D : Type 0} (next : HandedMayBeNext) (k : Machine) (front : FrontState
   comes =
       next committer.rows committer.number group (commands_of rest) front i.is ahead
 
-  -- it is what the committer takes
-  pub is_taken : committer.broken ≡ false → Takes committer group
+  -- the group is one that the committer takes
+  pub is_taken : committer.broken ≡ false → TakesGroup committer group
   is_taken sound = record {
     sound = sound;
     idle = none;
@@ -403,7 +409,7 @@ module _ {D : Type 0} (next : HandedMayBeNext) (k : Machine) (front : FrontState
     noticed_is = i.noticed_is;
   }
 
--- ---- a trim is asked for
+-- ---- a trim is requested
 
 -- nothing changes on the disk
 pub trim_disk : {D E : Type 0} (view : View D) (old new : CommitterState D)
@@ -418,7 +424,7 @@ trim_sizes view old new (Ok true) b = ap (λ (c : CommitterState _). c.sizes) b.
 trim_sizes view old new (Ok false) b = ap (λ (c : CommitterState _). c.sizes) b.2
 trim_sizes view old new (Err e) b = ap (λ (c : CommitterState _). c.sizes) b.1
 
--- it is granted to a committer that isn't broken
+-- a trim is granted only to a committer that isn't broken
 pub trim_sound : {D E : Type 0} (view : View D) (old new : CommitterState D)
     (result : Result Bool E) → BeginsTrim view old result new → IsOk result
     → old.broken ≡ false

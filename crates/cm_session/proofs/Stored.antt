@@ -19,19 +19,20 @@ use Rattle.cm_guards.specs.Stages.{Stage, calls_left}
 use Rattle.cm_commit.specs.States.{CommitterState}
 use Rattle.cm_commit.specs.Advances.{Advances, HasRisen}
 use Rattle.cm_guards.proofs.{one_call_less}
-use Rattle.cm_prepare.specs.declared.refusal.Refusal.{Refusal}
-use Rattle.cm_machine.specs.Machine.{Machine, Asks, Seals, accepted_to}
+use Rattle.cm_commands.specs.declared.refusal.Refusal.{Refusal}
+use Rattle.cm_commands.specs.Machine.{Machine, Asks, Seals, accepted_to}
 use Rattle.cm_session.specs.declared.session.Sealed.{Sealed}
 use Rattle.cm_session.specs.Images.{StandsForSome}
 use Rattle.cm_session.specs.declared.storing.NotStored.TheVariants.{Refused, Unsure}
-use Rattle.cm_session.specs.Moves.{Leads, Accepting, Answers, Sealing, Advancing, Learns, MayTake}
+use Rattle.cm_session.specs.Moves.{ReachesMachine, Accepting, Answers, Sealing, Advancing, Learns}
+use Rattle.cm_session.specs.Moves.{MayTake}
 use Rattle.cm_session.specs.Moves.{Steps}
-use Rattle.cm_session.specs.Storing.{IsWorking, IsTrimmed, NoTrim, IsAtRest, Hands, Storing}
+use Rattle.cm_session.specs.Storing.{IsWorking, HasTrimmed, NoTrim, IsAtRest, Hands, Storing}
 use Rattle.cm_session.specs.Storing.{FailsOnly}
 
 -- ---- how many calls may follow
 
--- one more while calls are made
+-- the calls that are left, and one more while calls are made
 abbrev pub weight : Result Progress AdvanceFault → List Stage → ℕ
 weight (Ok Idle) left = calls_left left
 weight (Ok Working) left = 1 + calls_left left
@@ -115,7 +116,7 @@ fewer view waiting old new before result working some s =
 -- no trim begins by itself
 pub no_trim : {D : Type 0} (view : View D) (waiting : List Handed)
     (old new : CommitterState D) (result : Result Progress AdvanceFault) → NoTrim old.underway
-    → Steps view waiting old result new → NoTrim new.underway × (IsTrimmed result → ⊥)
+    → Steps view waiting old result new → NoTrim new.underway × (HasTrimmed result → ⊥)
 no_trim {D} view waiting old new result none s = moved result begun_so s.moved
   where
     begun_of : (begun : CommitterState D) → MayTake view waiting old begun
@@ -129,7 +130,7 @@ no_trim {D} view waiting old new result none s = moved result begun_so s.moved
     begun_so = begun_of s.begun s.takes
 
     moved : (r : Result Progress AdvanceFault) → NoTrim s.begun.underway
-        → Advances s.begun r new → NoTrim new.underway × (IsTrimmed r → ⊥)
+        → Advances s.begun r new → NoTrim new.underway × (HasTrimmed r → ⊥)
     moved (Ok Idle) so m =
         (subst (λ (c : CommitterState D). NoTrim c.underway) (sym m.stays) so, λ is. is)
     moved (Ok Working) so m =
@@ -142,10 +143,10 @@ no_trim {D} view waiting old new result none s = moved result begun_so s.moved
     moved (Err Broken) so m =
         (subst (λ (c : CommitterState D). NoTrim c.underway) (sym m.stays) so, λ is. is)
 
--- one that is done isn't under way
+-- a trim that is done isn't under way
 pub trim_done : {D : Type 0} (view : View D) (waiting : List Handed)
     (old new : CommitterState D) (result : Result Progress AdvanceFault)
-    → Steps view waiting old result new → IsTrimmed result → NoTrim new.underway
+    → Steps view waiting old result new → HasTrimmed result → NoTrim new.underway
 trim_done view waiting old new (Ok Idle) s is = absurd is
 trim_done view waiting old new (Ok Working) s is = absurd is
 trim_done view waiting old new (Ok (Done receipt)) s is = absurd is
@@ -153,25 +154,27 @@ trim_done view waiting old new (Ok (Trimmed roots)) s is =
     subst (λ (c : CommitterState _). NoTrim c.underway) (sym s.moved.new_is) tt
 trim_done view waiting old new (Err fault) s is = absurd is
 
--- and leaves the machine as it was
-pub past_trim : {Goes : Machine → Type 0} (k : Machine) (result : Result Progress AdvanceFault)
-    → IsTrimmed result → Leads (Advancing k result) Goes → Goes k
-past_trim k (Ok Idle) is leads = absurd is
-past_trim k (Ok Working) is leads = absurd is
-past_trim k (Ok (Done receipt)) is leads = absurd is
-past_trim {Goes = Goes} k (Ok (Trimmed roots)) is leads = subst Goes leads.does.1 leads.goes
-past_trim k (Err fault) is leads = absurd is
+-- it leaves the machine as it was
+pub past_trim : {Matching : Machine → Type 0} (k : Machine) (result : Result Progress AdvanceFault)
+    → HasTrimmed result → ReachesMachine (Advancing k result) Matching → Matching k
+past_trim k (Ok Idle) is reaches = absurd is
+past_trim k (Ok Working) is reaches = absurd is
+past_trim k (Ok (Done receipt)) is reaches = absurd is
+past_trim {Matching = Matching} k (Ok (Trimmed roots)) is reaches =
+    subst Matching reaches.does.1 reaches.matches
+past_trim k (Err fault) is reaches = absurd is
 
 -- ---- while calls are made the machine stays
 
-pub goes_on : {Goes : Machine → Type 0} (k : Machine) (result : Result Progress AdvanceFault)
-    → IsWorking result → Leads (Advancing k result) Goes → Goes k
-goes_on k (Ok Idle) working leads = absurd (cc)
-goes_on {Goes = Goes} k (Ok Working) working leads = subst Goes leads.does.1 leads.goes
-goes_on k (Ok (Done receipt)) working leads = absurd (cc)
-goes_on k (Ok (Trimmed roots)) working leads = absurd (cc)
-goes_on k (Err Device) working leads = absurd (cc)
-goes_on k (Err Broken) working leads = absurd (cc)
+pub goes_on : {Matching : Machine → Type 0} (k : Machine) (result : Result Progress AdvanceFault)
+    → IsWorking result → ReachesMachine (Advancing k result) Matching → Matching k
+goes_on k (Ok Idle) working reaches = absurd (cc)
+goes_on {Matching = Matching} k (Ok Working) working reaches =
+    subst Matching reaches.does.1 reaches.matches
+goes_on k (Ok (Done receipt)) working reaches = absurd (cc)
+goes_on k (Ok (Trimmed roots)) working reaches = absurd (cc)
+goes_on k (Err Device) working reaches = absurd (cc)
+goes_on k (Err Broken) working reaches = absurd (cc)
 
 pub risen : (before between now : ℕ) (first second : Result Progress AdvanceFault)
     → HasRisen before between first → HasRisen between now second → HasRisen before now second
@@ -180,7 +183,7 @@ risen before between now first second one two = record {
   device = λ is. let here = one.later in let rose = two.device is in omega (arith, here, rose);
 }
 
--- ---- one command, from rest to rest
+-- ---- one command, from a state of rest to the next
 
 same_flag : (k : Machine) (flag : Bool) → flag ≡ k.noticed → record k { noticed = flag } ≡ k
 same_flag k flag same = ap (λ (b : Bool). record k { noticed = b }) same
@@ -240,7 +243,7 @@ module _ (sizes : Sizes) (k : Machine) (change : Change ClassFile) (number : ℕ
   abbrev pub handed : Machine
   handed = record accepted { sealed = number }
 
-  -- it is all of the group
+  -- the command is all of the group
   pub is_handed : (group : Sealed) (next : Machine) → Seals accepted group.first group.last next
       → next ≡ handed
   is_handed group next s =
@@ -256,7 +259,7 @@ module _ (sizes : Sizes) (k : Machine) (change : Change ClassFile) (number : ℕ
   stored = record handed { acknowledged = number }
 
   pub is_stored : (p : Progress) (next : Machine) → (IsWorking (Ok p) → ⊥)
-      → (IsTrimmed (Ok p) → ⊥) → Advancing handed (Ok p) next → next ≡ stored
+      → (HasTrimmed (Ok p) → ⊥) → Advancing handed (Ok p) next → next ≡ stored
   is_stored Idle next ends past d =
       let before = stored_before in
       let all = d.1 in
@@ -319,48 +322,49 @@ module _ (sizes : Sizes) (k : Machine) (change : Change ClassFile) (number : ℕ
     moments = moments;
   }
 
-  pub stores : {Moved Goes : Machine → Type 0} (asked : Change (List ℕ)) → Asks asked change
+  pub stores : {Moved Matching : Machine → Type 0} (asked : Change (List ℕ)) → Asks asked change
       → (Moments : (List ℕ → Type 0) → Type 0) → Moments (StandsForSome sizes handed)
-      → (p : Progress) → (IsWorking (Ok p) → ⊥) → (IsTrimmed (Ok p) → ⊥)
-      → Leads (Advancing handed (Ok p)) Moved → (n : ℕ)
-      → ((j : Machine) → Moved j → Leads (Learns j n) Goes)
-      → Storing sizes k asked Moments (Ok number) Goes
-  stores {Moved = Moved} {Goes = Goes} asked asks Moments moments p ends past moved n learns =
+      → (p : Progress) → (IsWorking (Ok p) → ⊥) → (HasTrimmed (Ok p) → ⊥)
+      → ReachesMachine (Advancing handed (Ok p)) Moved → (n : ℕ)
+      → ((j : Machine) → Moved j → ReachesMachine (Learns j n) Matching)
+      → Storing sizes k asked Moments (Ok number) Matching
+  stores {Moved = Moved} {Matching = Matching} asked asks Moments moments p ends past moved n learns
+      =
       let l = learns stored
-      (subst Moved (is_stored p moved.next ends past moved.does) moved.goes) in
+      (subst Moved (is_stored p moved.next ends past moved.does) moved.matches) in
       let same = learnt n l.next l.does in
       record {
         change = change;
         asks = asks;
-        leads = record {
+        reaches = record {
           next = stored;
           does = (handed, hands Moments moments, refl, rests);
-          goes = subst Goes same l.goes;
+          matches = subst Matching same l.matches;
         };
       }
 
-  pub loses : {Moved Goes : Machine → Type 0} (asked : Change (List ℕ)) → Asks asked change
+  pub loses : {Moved Matching : Machine → Type 0} (asked : Change (List ℕ)) → Asks asked change
       → (Moments : (List ℕ → Type 0) → Type 0) → Moments (StandsForSome sizes handed)
-      → (e : AdvanceFault) → Leads (Advancing handed (Err e)) Moved → (n : ℕ)
-      → ((j : Machine) → Moved j → Leads (Learns j n) Goes)
-      → Storing sizes k asked Moments (Err (Unsure number)) Goes
-  loses {Moved = Moved} {Goes = Goes} asked asks Moments moments e moved n learns =
+      → (e : AdvanceFault) → ReachesMachine (Advancing handed (Err e)) Moved → (n : ℕ)
+      → ((j : Machine) → Moved j → ReachesMachine (Learns j n) Matching)
+      → Storing sizes k asked Moments (Err (Unsure number)) Matching
+  loses {Moved = Moved} {Matching = Matching} asked asks Moments moments e moved n learns =
       let l = learns (record handed { failed = true })
-      (subst Moved (is_failed e moved.next moved.does) moved.goes) in
+      (subst Moved (is_failed e moved.next moved.does) moved.matches) in
       let same = noticed_now n l.next l.does in
       record {
         change = change;
         asks = asks;
-        leads = record {
+        reaches = record {
           next = lost;
           does = (handed, hands Moments moments, refl, rests_lost);
-          goes = subst Goes same l.goes;
+          matches = subst Matching same l.matches;
         };
       }
 
   -- the device failed in this call
   pub fails : {Moved : Machine → Type 0} (before now : ℕ) (e : AdvanceFault)
-      → Leads (Advancing handed (Err e)) Moved → HasRisen before now (Err e)
+      → ReachesMachine (Advancing handed (Err e)) Moved → HasRisen before now (Err e)
       → FailsOnly before now (Err (Unsure number))
   fails before now Device moved risen = record {
     later = risen.later;
@@ -373,33 +377,34 @@ module _ (sizes : Sizes) (k : Machine) (change : Change ClassFile) (number : ℕ
 
 -- ---- a command that isn't handed out
 
-pub refuses : {Goes : Machine → Type 0} (sizes : Sizes) (k : Machine) (asked : Change (List ℕ))
+pub refuses : {Matching : Machine → Type 0} (sizes : Sizes) (k : Machine) (asked : Change (List ℕ))
     (Moments : (List ℕ → Type 0) → Type 0) (r : Refusal) → IsAtRest k
-    → Accepting sizes k asked (Err r) Goes → Storing sizes k asked Moments (Err (Refused r)) Goes
+    → Accepting sizes k asked (Err r) Matching
+    → Storing sizes k asked Moments (Err (Refused r)) Matching
 refuses sizes k asked Moments r rest accepting = record {
   change = accepting.change;
   asks = accepting.asks;
-  leads = record {
-    next = accepting.leads.next;
-    does = (accepting.leads.does, subst IsAtRest (sym accepting.leads.does.0) rest);
-    goes = accepting.leads.goes;
+  reaches = record {
+    next = accepting.reaches.next;
+    does = (accepting.reaches.does, subst IsAtRest (sym accepting.reaches.does.0) rest);
+    matches = accepting.reaches.matches;
   };
 }
 
--- what comes never where a place is sure
+-- what can't happen if there is a place
 pub no_place : {T E : Type 0} {X : Type 0} (r : Result T E) → true ≡ is_err r → IsOk r → X
 no_place (Ok x) refused ok = absurd (cc)
 no_place (Err e) refused ok = absurd (cc)
 
 -- the group that was handed out
-pub sealed : {Goes : Machine → Type 0} {E : Type 0} (sizes : Sizes) (k : Machine)
+pub sealed : {Matching : Machine → Type 0} {E : Type 0} (sizes : Sizes) (k : Machine)
     (change : Change ClassFile) (number : ℕ) (accepted : Machine) (rest : IsAtRest k)
     (a : Answers sizes k change (Ok number) accepted) (result : Result (Option Sealed) E)
-    → IsOk result → Leads (Sealing accepted result) Goes
-    → Goes (handed sizes k change number accepted rest a)
+    → IsOk result → ReachesMachine (Sealing accepted result) Matching
+    → Matching (handed sizes k change number accepted rest a)
 sealed sizes k change number accepted rest a (Ok None) is seals =
     absurd (some_waits sizes k change number accepted rest a seals.does.0)
-sealed {Goes = Goes} sizes k change number accepted rest a (Ok (Some group)) is seals =
-    subst Goes (is_handed sizes k change number accepted rest a group seals.next seals.does)
-    seals.goes
+sealed {Matching = Matching} sizes k change number accepted rest a (Ok (Some group)) is seals =
+    subst Matching (is_handed sizes k change number accepted rest a group seals.next seals.does)
+    seals.matches
 sealed sizes k change number accepted rest a (Err e) is seals = absurd (cc)

@@ -3,7 +3,7 @@ use Rattle.std.specs.Prelude.{ℕ, List}
 use Rattle.cm_pool.specs.Geometry.{Sizes}
 use Rattle.cm_state.specs.State.{CacheState}
 use Rattle.cm_state.specs.Stands.{Arenas, Stands}
-use Rattle.cm_machine.specs.Machine.{machine_from}
+use Rattle.cm_commands.specs.Machine.{machine_from}
 use Rattle.cm_session.specs.Images.{StandsForSome}
 
 -- Contents that stand for a cache do so for the machine that begins with this cache.

@@ -1,13 +1,13 @@
--- What each call of a session is for the machine.
+-- What each call of a session means for the machine.
 use Rattle.std.specs.Prelude.{◌≡◌, ℕ, ◌<◌, ◌⊎◌, ◌||◌, Bool, true, false, List, [], ◌∷◌, ◌++◌}
 use Rattle.std.specs.Prelude.{Option, Some, None, Result, Ok, Err}
 use Rattle.cm_class.specs.declared.class_file.ClassFile.{ClassFile}
 use Rattle.cm_pool.specs.Geometry.{Sizes}
-use Rattle.cm_disk.specs.Disk.{View, Unsynced, IsSettled}
+use Rattle.cm_disk.specs.Disk.{View, Unsynced, IsDurable}
 use Rattle.cm_state.specs.Step.{Change}
 use Rattle.cm_state.specs.Stands.{Arenas, Stands}
-use Rattle.cm_prepare.specs.declared.refusal.Refusal.{Refusal}
-use Rattle.cm_prepare.specs.declared.refusal.Refusal.TheVariants as refusal
+use Rattle.cm_commands.specs.declared.refusal.Refusal.{Refusal}
+use Rattle.cm_commands.specs.declared.refusal.Refusal.TheVariants as refusal
 use Rattle.cm_front.specs.Front.{FrontState}
 use Rattle.cm_front.specs.Accepting.{HandsOut}
 use Rattle.cm_commit.specs.declared.progress.Progress.{Progress}
@@ -21,26 +21,26 @@ use Rattle.cm_commit.specs.Advances.{Advances}
 use Rattle.cm_recover.specs.declared.opening.NotOpened.{NotOpened}
 use Rattle.cm_recover.specs.declared.fault.OpenFault.{OpenFault}
 use Rattle.cm_recover.specs.declared.fault.OpenFault.TheVariants as open_fault
-use Rattle.cm_machine.specs.Machine.{Base, Machine, Asks, Accepts, Refuses, Seals, Acknowledges}
-use Rattle.cm_machine.specs.Machine.{Reopens, accepted_to, machine_from}
+use Rattle.cm_commands.specs.Machine.{Base, Machine, Asks, Accepts, Refuses, Seals, Acknowledges}
+use Rattle.cm_commands.specs.Machine.{Reopens, accepted_to, machine_from}
 use Rattle.cm_session.specs.declared.session.Session.{Session}
 use Rattle.cm_session.specs.declared.session.Sealed.{Sealed}
 use Rattle.cm_session.specs.Images.{StandsFor}
-use Rattle.cm_session.specs.Session.{NoneGoesOn, IsSession}
+use Rattle.cm_session.specs.Session.{NoneContinues, IsSession}
 
--- the session goes with the machine
-abbrev pub GoesWith : {D : Type 0} → Machine → Session D → Type 0
-GoesWith k s = IsSession k s.front s.committer s.queue.groups.items s.sealed s.has_failed
+-- the session matches the machine
+abbrev pub SessionMatches : {D : Type 0} → Machine → Session D → Type 0
+SessionMatches k s = IsSession k s.front s.committer s.queue.groups.items s.sealed s.has_failed
 
--- The call leads the machine to another one, by what it does, and the session goes with that one.
-pub record Leads (Does Goes : Machine → Type 0) : Type 0 where
+-- The call leads the machine to another one, by what it does, and the session matches that one.
+pub record ReachesMachine (Does Matching : Machine → Type 0) : Type 0 where
   pub next : Machine
   pub does : Does next
-  pub goes : Goes next
+  pub matches : Matching next
 
 -- ---- accepting
 
--- A command is accepted with the next number, or refused: since a failure of the device was
+-- A command is accepted with the next number, or refused: because a failure of the device was
 -- noticed, or by the machine.
 abbrev pub Answers : Sizes → Machine → Change ClassFile → Result ℕ Refusal → Machine → Type 0
 Answers sizes k change (Ok number) next =
@@ -50,28 +50,28 @@ Answers sizes k change (Err r) next =
     × (((k.noticed ≡ true) × (r ≡ refusal.Broken))
     ⊎ ((k.noticed ≡ false) × Refuses sizes k change r))
 
--- it is some change of classes that is asked for
+-- the command requests some change of classes
 abbrev pub IsAsked : Change (List ℕ) → Type 0
 IsAsked asked = (change : Change ClassFile) × Asks asked change
 
--- for the change of classes that a command asks for
+-- the same for the change of classes that a command requests
 pub record Accepting (sizes : Sizes) (k : Machine) (asked : Change (List ℕ))
-    (result : Result ℕ Refusal) (Goes : Machine → Type 0) : Type 0 where
+    (result : Result ℕ Refusal) (Matching : Machine → Type 0) : Type 0 where
   pub change : Change ClassFile
   pub asks : Asks asked change
-  pub leads : Leads (Answers sizes k change result) Goes
+  pub reaches : ReachesMachine (Answers sizes k change result) Matching
 
 -- ---- handing out
 
--- All commands were handed out before, or a group of them is now. Where an allocation failed, some
+-- All commands were handed out before, or a group of them is now. If an allocation failed, some
 -- wait, and still do.
 abbrev pub Sealing : {E : Type 0} → Machine → Result (Option Sealed) E → Machine → Type 0
 Sealing k (Ok None) next = (k.sealed ≡ accepted_to k) × (next ≡ k)
 Sealing k (Ok (Some group)) next = Seals k group.first group.last next
 Sealing k (Err e) next = (k.sealed < accepted_to k) × (next ≡ k)
 
--- A group that is handed out comes behind those that wait, with what was learnt by now; else none
--- does.
+-- A group that is handed out is appended to those that wait, with what was learnt by now; otherwise
+-- nothing is appended.
 abbrev pub Queues : {E : Type 0} → FrontState → List Handed → Result (Option Sealed) E → FrontState
     → List Handed → Type 0
 Queues front queue (Ok None) new now = (new ≡ front) × (now ≡ queue)
@@ -81,9 +81,9 @@ Queues front queue (Err e) new now = (new ≡ front) × (now ≡ queue)
 
 -- ---- advancing
 
--- Nothing is left to do, only where all that was handed out is acknowledged; or one device call is
--- made: the last of a group's acknowledges its commands, those of a trim leave all as it is; once
--- one failed, none is made any more.
+-- Either nothing is left to do, and then all that was handed out is acknowledged; or one device
+-- call is made: the last of a group's acknowledges its commands, those of a trim leave everything
+-- as it is. Once one failed, no call is made any more.
 abbrev pub Advancing : Machine → Result Progress AdvanceFault → Machine → Type 0
 Advancing k (Ok Idle) next = (k.failed ≡ false) × (k.acknowledged ≡ k.sealed) × (next ≡ k)
 Advancing k (Ok Working) next = (k.failed ≡ false) × (next ≡ k)
@@ -101,17 +101,18 @@ IsNoCall (Ok (Trimmed roots)) = ⊥
 IsNoCall (Err Device) = ⊥
 IsNoCall (Err Broken) = Unit {0}
 
--- The committer is as it was, or it had nothing under way, no call was left, and it took a group:
--- with all groups behind it that one group holds, so the oldest that still waits goes beyond it.
+-- Either the committer is as it was, or it had nothing under way, no call was left, and it took a
+-- group, with as many of the groups after it as one group holds, so that the oldest that still
+-- waits doesn't fit.
 abbrev pub MayTake : {D : Type 0} → View D → List Handed → CommitterState D
     → CommitterState D → Type 0
 MayTake view waiting old begun =
     (begun ≡ old)
     ⊎ ((old.underway ≡ None) × (calls_left old.left ≡ 0) × (group : Handed)
-    × ((begun ≡ with_taken view old group) × NoneGoesOn group waiting))
+    × ((begun ≡ with_taken view old group) × NoneContinues group waiting))
 
--- The committer may first take a group, and then makes one step: exactly one device call where some
--- is left.
+-- The committer may first take a group, and then makes one step: exactly one device call if any is
+-- left.
 pub record Steps {D : Type 0} (view : View D) (waiting : List Handed)
     (old : CommitterState D) (result : Result Progress AdvanceFault) (new : CommitterState D)
     : Type 0 where
@@ -127,40 +128,41 @@ is_device (Err Broken) = false
 
 -- ---- learning
 
--- What is acknowledged is told, and a failure of the device is noticed.
+-- What is acknowledged is returned, and a failure of the device is noticed.
 pub record Learns (k : Machine) (number : ℕ) (next : Machine) : Type 0 where
   pub number_is : number ≡ k.acknowledged
   pub next_is : next ≡ record k { noticed = k.noticed || k.failed }
 
 -- ---- opening again
 
--- The contents stand for the commands up to some number, and the machine goes on from these.
+-- The contents stand for the commands up to some number, and the machine continues from these.
 pub record Reopening (sizes : Sizes) (k : Machine) (contents : List ℕ) (next : Machine)
     : Type 0 where
   pub number : ℕ
   pub reopens : Reopens k number next
   pub stands : StandsFor sizes k number contents
 
--- a file that stands for some of the commands isn't opened only for the device or for memory
+-- a file that stands for some of the commands isn't opened only because of the device or a failed
+-- allocation
 abbrev pub IsOutside : OpenFault → Type 0
 IsOutside open_fault.NotACache = ⊥
 IsOutside (open_fault.Damaged what slot) = ⊥
 IsOutside open_fault.Device = Unit {0}
 IsOutside open_fault.NoMemory = Unit {0}
 
--- the session of these contents; all that its disk holds is stored
+-- the session of these contents; all that its disk holds is durable
 pub record Opened {D : Type 0} (view : View D) (sizes : Sizes)
     (bytes : List ℕ) (k : Machine) (s : Session D) : Type 0 where
-  pub leads : Leads (Reopening sizes k bytes) (λ next. GoesWith next s)
+  pub reaches : ReachesMachine (Reopening sizes k bytes) (λ next. SessionMatches next s)
   pub sizes_are : s.committer.sizes ≡ sizes
-  pub settled : IsSettled (view.contents s.committer.disk) (view.unsynced s.committer.disk)
+  pub durable : IsDurable (view.contents s.committer.disk) (view.unsynced s.committer.disk)
 
--- The contents stand for a cache, and the session goes with the machine that begins with it.
-pub record Begins {D : Type 0} (bytes : List ℕ) (s : Session D) : Type 0 where
+-- The contents stand for a cache, and the session matches the machine that begins with it.
+pub record SessionBegins {D : Type 0} (bytes : List ℕ) (s : Session D) : Type 0 where
   pub base : Base
   pub arenas : Arenas
   pub stands : Stands s.committer.sizes bytes base.state arenas base.number
-  pub goes : GoesWith (machine_from base) s
+  pub matches : SessionMatches (machine_from base) s
 
 -- the disk after it was opened, or handed back
 abbrev pub disk_of : {D : Type 0} → Result (Session D) (NotOpened D) → D

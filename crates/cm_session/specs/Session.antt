@@ -1,19 +1,19 @@
--- What a session keeps: an accepted cache, the committer of its disk, and the groups on the way
--- from the one to the other.
+-- The invariant of a session: an accepted cache, the committer of its disk, and the groups that
+-- wait between the two.
 use Rattle.std.specs.Prelude.{◌≡◌, ℕ, ◌+◌, ◌≤◌, Bool, false, List, [], ◌∷◌, ◌++◌, length}
 use Rattle.std.specs.Prelude.{Option, Some, None}
 use Rattle.std.specs.List.{flat_map}
 use Rattle.cm_layout.specs.declared.row.Row.{Row}
-use Rattle.cm_group.specs.Groups.{Carried, Handed, IsGroup, GoesOn}
+use Rattle.cm_group.specs.Groups.{Carried, Handed, IsGroup, IsContinuedBy}
 use Rattle.cm_front.specs.Front.{FrontState, IsFront}
 use Rattle.cm_guards.specs.Stages.{Stage, calls_left}
 use Rattle.cm_commit.specs.Offers.{rows_after_group}
 use Rattle.cm_commit.specs.States.{Work, Storing, Trimming, CommitterState}
-use Rattle.cm_machine.specs.Ahead.{IsAhead}
-use Rattle.cm_machine.specs.Machine.{Machine}
-use Rattle.cm_machine.specs.Laws.{FollowsFront}
+use Rattle.cm_handover.specs.Ahead.{IsAhead}
+use Rattle.cm_commands.specs.Machine.{Machine}
+use Rattle.cm_handover.specs.Laws.{FollowsFront}
 
--- ---- groups on their way
+-- ---- groups that wait
 
 -- the one that is stored, if one is
 abbrev pub of_underway : Option Work → List Handed
@@ -25,23 +25,23 @@ of_underway (Some (Storing group)) = group ∷ []
 abbrev pub commands_of : List Handed → List Carried
 commands_of groups = flat_map (λ g. g.entries) groups
 
--- groups one behind another, the first with the number behind n
-abbrev pub GoBehind : ℕ → List Handed → Type 0
-GoBehind n [] = Unit {0}
-GoBehind n (group ∷ groups) =
-    (group.first ≡ n + 1) × IsGroup group × GoBehind (n + length group.entries) groups
+-- groups one after another, the first with the number after n
+abbrev pub AreConsecutive : ℕ → List Handed → Type 0
+AreConsecutive n [] = Unit {0}
+AreConsecutive n (group ∷ groups) =
+    (group.first ≡ n + 1) × IsGroup group × AreConsecutive (n + length group.entries) groups
 
--- the oldest group that waits, if one does, goes beyond what one group holds with this one
-abbrev pub NoneGoesOn : Handed → List Handed → Type 0
-NoneGoesOn group [] = Unit {0}
-NoneGoesOn group (next ∷ queue) = ¬ GoesOn group next
+-- the oldest waiting group, if there is one, doesn't fit into one group with this one
+abbrev pub NoneContinues : Handed → List Handed → Type 0
+NoneContinues group [] = Unit {0}
+NoneContinues group (next ∷ queue) = ¬ IsContinuedBy group next
 
--- calls are left exactly while something is under way
+-- calls are left exactly as long as something is under way
 abbrev pub IsBusyWith : Option Work → List Stage → Type 0
 IsBusyWith None left = left ≡ []
 IsBusyWith (Some work) left = 1 ≤ calls_left left
 
--- Rows are committed with this number. What was stored since the accepted cache last learnt so
+-- Rows are committed with this number. What was stored since the accepted cache last learnt this
 -- leads to them from the rows that it learnt of; and at each number from the learnt one on, no word
 -- is free that rows use.
 pub record IsAheadOfLearnt (rows : List (Row (List ℕ))) (number : ℕ) (out : List Carried)
@@ -54,14 +54,14 @@ pub record IsAheadOfLearnt (rows : List (Row (List ℕ))) (number : ℕ) (out : 
 
 -- ---- the session
 
--- The parts of a session, which go with what the machine is at: the groups under way and queued
--- lead from what is committed to what is accepted, and the machine's numbers and flags are theirs.
+-- The parts of a session match the machine's state: the groups under way and queued lead from what
+-- is committed to what is accepted, and the machine's numbers and flags are theirs.
 pub record IsSession {D : Type 0} (k : Machine) (front : FrontState) (committer : CommitterState D)
     (queue : List Handed) (sealed : ℕ) (failed : Bool) : Type 0 where
   pub is : IsFront front
   pub sizes : front.sizes ≡ committer.sizes
   pub running : front.closed ≡ false
-  pub groups : GoBehind committer.number (of_underway committer.underway ++ queue)
+  pub groups : AreConsecutive committer.number (of_underway committer.underway ++ queue)
   pub busy : IsBusyWith committer.underway committer.left
   pub ahead : IsAhead committer.rows committer.number
       (commands_of (of_underway committer.underway ++ queue)) front

@@ -1,35 +1,35 @@
--- What it is to store a command, for the machine: it is accepted, handed out and acknowledged
--- before the next one.
+-- What storing a command means for the machine: it is accepted, handed out and acknowledged before
+-- the next one.
 use Rattle.std.specs.Prelude.{◌≡◌, ◌≤◌, ◌<◌, ℕ, true, false, List, Option, Some, None, Result, Ok}
 use Rattle.std.specs.Prelude.{Err}
 use Rattle.cm_class.specs.declared.class_file.ClassFile.{ClassFile}
 use Rattle.cm_pool.specs.Geometry.{Sizes}
 use Rattle.cm_state.specs.Step.{Change}
-use Rattle.cm_prepare.specs.declared.refusal.Refusal.{Refusal}
-use Rattle.cm_prepare.specs.declared.refusal.Refusal.TheVariants as refusal
+use Rattle.cm_commands.specs.declared.refusal.Refusal.{Refusal}
+use Rattle.cm_commands.specs.declared.refusal.Refusal.TheVariants as refusal
 use Rattle.cm_commit.specs.declared.progress.Progress.{Progress}
 use Rattle.cm_commit.specs.declared.progress.Progress.TheVariants.{Idle, Working, Done}
 use Rattle.cm_commit.specs.declared.progress.Progress.TheVariants.{Trimmed}
 use Rattle.cm_commit.specs.declared.progress.AdvanceFault.{AdvanceFault}
 use Rattle.cm_commit.specs.States.{Work, Storing as Stored, Trimming}
-use Rattle.cm_machine.specs.Machine.{Machine, Asks, accepted_to}
+use Rattle.cm_commands.specs.Machine.{Machine, Asks, accepted_to}
 use Rattle.cm_session.specs.declared.session.Session.{Session}
 use Rattle.cm_session.specs.declared.storing.NotStored.{NotStored}
 use Rattle.cm_session.specs.declared.storing.NotStored.TheVariants.{Refused, Unsure}
 use Rattle.cm_session.specs.Images.{StandsForSome}
-use Rattle.cm_session.specs.Moves.{Leads, Answers}
+use Rattle.cm_session.specs.Moves.{ReachesMachine, Answers}
 
 abbrev pub IsWorking : Result Progress AdvanceFault → Type 0
 IsWorking result = result ≡ Ok Working
 
-abbrev pub IsTrimmed : Result Progress AdvanceFault → Type 0
-IsTrimmed (Ok Idle) = ⊥
-IsTrimmed (Ok Working) = ⊥
-IsTrimmed (Ok (Done receipt)) = ⊥
-IsTrimmed (Ok (Trimmed roots)) = Unit {0}
-IsTrimmed (Err fault) = ⊥
+abbrev pub HasTrimmed : Result Progress AdvanceFault → Type 0
+HasTrimmed (Ok Idle) = ⊥
+HasTrimmed (Ok Working) = ⊥
+HasTrimmed (Ok (Done receipt)) = ⊥
+HasTrimmed (Ok (Trimmed roots)) = Unit {0}
+HasTrimmed (Err fault) = ⊥
 
--- the file isn't cut
+-- the file isn't being truncated
 abbrev pub NoTrim : Option Work → Type 0
 NoTrim None = Unit {0}
 NoTrim (Some Trimming) = ⊥
@@ -41,7 +41,7 @@ pub record IsAtRest (k : Machine) : Type 0 where
   pub sealed : k.failed ≡ false → k.sealed ≡ accepted_to k
   pub stored : k.failed ≡ false → k.acknowledged ≡ accepted_to k
 
--- The command was handed out alone. Whichever call a crash fell into, the file stands for what was
+-- The command was handed out alone. Whichever call a crash hits, the file stands for what was
 -- acknowledged before, or for that and this command.
 pub record Hands (sizes : Sizes) (k : Machine) (change : Change ClassFile)
     (Moments : (List ℕ → Type 0) → Type 0) (number : ℕ) (handed : Machine) : Type 0 where
@@ -50,8 +50,8 @@ pub record Hands (sizes : Sizes) (k : Machine) (change : Change ClassFile)
   pub handed_is : handed ≡ record accepted { sealed = number }
   pub moments : Moments (StandsForSome sizes handed)
 
--- It is stored; or refused, with nothing changed; or the device failed, and the file may hold it or
--- not.
+-- The command is stored; or refused, with nothing changed; or the device failed, and the file may
+-- or may not hold it.
 abbrev pub Stores : Sizes → Machine → Change ClassFile → ((List ℕ → Type 0) → Type 0)
     → Result ℕ NotStored → Machine → Type 0
 Stores sizes k change Moments (Ok number) next =
@@ -63,30 +63,31 @@ Stores sizes k change Moments (Err (Unsure number)) next =
     (handed : Machine) × Hands sizes k change Moments number handed
     × (next ≡ record handed { failed = true; noticed = true }) × IsAtRest next
 
--- the refusal that tells why a command isn't known to be stored
+-- the refusal that says why a command isn't known to be durable
 abbrev pub refusal_told : NotStored → Refusal
 refusal_told (Refused r) = r
 refusal_told (Unsure number) = refusal.Unsure number
 
--- for the change of classes that a command asks for
+-- the same for the change of classes that a command requests
 pub record Storing (sizes : Sizes) (k : Machine) (asked : Change (List ℕ))
-    (Moments : (List ℕ → Type 0) → Type 0) (result : Result ℕ NotStored) (Goes : Machine → Type 0)
+    (Moments : (List ℕ → Type 0) → Type 0) (result : Result ℕ NotStored) (Matching : Machine
+    → Type 0)
     : Type 0 where
   pub change : Change ClassFile
   pub asks : Asks asked change
-  pub leads : Leads (Stores sizes k change Moments result) Goes
+  pub reaches : ReachesMachine (Stores sizes k change Moments result) Matching
 
 abbrev pub IsUnsure : Result ℕ NotStored → Type 0
 IsUnsure (Ok number) = ⊥
 IsUnsure (Err (Refused r)) = ⊥
 IsUnsure (Err (Unsure number)) = Unit {0}
 
--- A command is unsure only where the device failed in this call.
+-- A command is unsure only if the device failed in this call.
 pub record FailsOnly (before now : ℕ) (result : Result ℕ NotStored) : Type 0 where
   pub later : before ≤ now
   pub unsure : IsUnsure result → before < now
 
--- Once a command was handed out, the accepted cache learns what is stored; of another it learns
+-- Once a command was handed out, the accepted cache learns what is durable; otherwise it learns
 -- nothing.
 abbrev pub TellsFront : {D : Type 0} → Session D → Result ℕ NotStored → Session D → Type 0
 TellsFront old (Ok number) new = new.front.learnt ≡ new.committer.number

@@ -1,4 +1,4 @@
-//! One thread's use of a cache file, each call of it a step of the abstract machine.
+//! One thread's use of a cache file, where each call is a step of the abstract machine.
 #![tactic(auto)]
 
 mod joining;

@@ -1,35 +1,35 @@
-//! Opening a file for a session.
+//! Opens a file for a session.
 
 ghost use Rattle.std.specs.Prelude.{IfOk, IfErr};
 ghost use Rattle.cm_pool.specs.Geometry.{Sizes};
 ghost use Rattle.cm_verdict.specs.Verdict.{verdict};
 ghost use Rattle.cm_recover.specs.Opening.{IsFaultIn};
 ghost use Rattle.cm_recover.specs.Opened.{OpensThrough};
-ghost use Rattle.cm_machine.specs.Machine.{Machine};
+ghost use Rattle.cm_commands.specs.Machine.{Machine};
 ghost use Rattle.cm_session.specs.Images.{StandsForSome};
-ghost use Rattle.cm_session.specs.Moves.{Opened, Begins, IsOutside, disk_of, MeetsDevice};
+ghost use Rattle.cm_session.specs.Moves.{Opened, SessionBegins, IsOutside, disk_of, MeetsDevice};
 
 use crate::laws::held_cache_begins_machine;
 use crate::queue::Queue;
 use crate::session::Session;
 use cm_disk::Disk;
-use cm_machine::{committed_rows_are_the_machines, opened_is_ahead};
+use cm_handover::{committed_rows_are_the_machines, opened_is_ahead};
 use cm_record::words_tell_name;
 use cm_recover::{NotOpened, OpenFault};
 use cm_state::contents_determine_cache;
 use cm_verdict::{found_is_framed, found_is_live, verdict_is_exact};
 use std::alloc::Global;
 
-/// Opens the cache of a file, as [`cm_recover::open`] does, for one thread's use.
+/// Opens the cache of a file, as [`cm_recover::open`] does, for use by one thread.
 ///
-/// It goes with the machine that begins with the cache that the file stands for; and whichever
-/// machine the file stands for some of the commands of: it goes on from these, and the file isn't
-/// opened only where the device or an allocation failed. The place of a group that waits is taken
-/// before the file is read.
+/// The session matches the machine that begins with the cache that the file stands for. More
+/// generally, if the file stands for some of a machine's commands, the session continues from
+/// these, and the file isn't opened only if the device or an allocation failed. The place of a
+/// group that waits is reserved before the file is read.
 pub fn open<D: Disk>(alloc: Global, disk: D) -> Result<Session<D>, NotOpened<D>>
     ensures opened { (sizes : Sizes) (k : Machine) → StandsForSome sizes k (D.view.contents disk)
         → IfOk result (Opened D.view sizes (D.view.contents disk) k) }
-    ensures begins { IfOk result (Begins (D.view.contents disk)) }
+    ensures begins { IfOk result (SessionBegins (D.view.contents disk)) }
     ensures stands { (sizes : Sizes) (k : Machine) → StandsForSome sizes k (D.view.contents disk)
         → IfErr result (λ e. IsOutside e.fault) }
     ensures fault { IfErr result (λ e. IsFaultIn e.fault (verdict (D.view.contents disk))) }

@@ -7,7 +7,7 @@ use cm_group::Group;
 use std::alloc::{AllocError, Global};
 use std::collections::VecDeque;
 
-/// Groups, oldest first. Where there is none, there is a place for one.
+/// Groups, oldest first. If there is none, there is room for one.
 #[derive(Drop)]
 pub(crate) struct Queue {
     pub(crate) groups: VecDeque<Group>,

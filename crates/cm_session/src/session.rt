@@ -6,28 +6,29 @@ ghost use Rattle.std.specs.Arc.{arc_value};
 ghost use Rattle.cm_guards.specs.Guards.{EachImage};
 ghost use Rattle.cm_guards.specs.Calls.{LeavesOnly};
 ghost use Rattle.cm_layout.specs.Laws.{IsNewest};
-ghost use Rattle.cm_prepare.specs.Commands.{change_asked};
+ghost use Rattle.cm_commands.specs.Commands.{change_asked};
 ghost use Rattle.cm_front.specs.Accepting.{FrontAnswers};
 ghost use Rattle.cm_commit.specs.Advances.{CallsDevice, EndsBehind, HasRisen};
 ghost use Rattle.cm_commit.specs.States.{BeginsTrim};
-ghost use Rattle.cm_machine.specs.Machine.{Machine};
-ghost use Rattle.cm_machine.specs.Laws.{Finds};
+ghost use Rattle.cm_commands.specs.Machine.{Machine};
+ghost use Rattle.cm_handover.specs.Laws.{Finds};
 ghost use Rattle.cm_session.specs.Images.{StandsForSome};
-ghost use Rattle.cm_session.specs.Moves.{GoesWith, Leads, Accepting, Sealing, Queues, Advancing};
+ghost use Rattle.cm_session.specs.Moves.{SessionMatches, ReachesMachine, Accepting, Sealing};
+ghost use Rattle.cm_session.specs.Moves.{Queues, Advancing};
 ghost use Rattle.cm_session.specs.Moves.{Learns, IsAsked, IsNoCall, is_device, MayTake, Steps};
 
 use crate::joining::join_queued;
 use crate::queue::Queue;
+use cm_commands::{Command, Refusal};
 use cm_commit::{AdvanceFault, Committer, NotIdle, Progress};
 use cm_disk::{Disk, SimDisk};
 use cm_front::Front;
 use cm_group::Receipt;
-use cm_machine::{
+use cm_handover::{
     ahead_stays_ahead, commands_follow_the_machine, committed_rows_are_the_machines,
     handed_groups_are_next,
 };
 use cm_pool::Geometry;
-use cm_prepare::{Command, Refusal};
 use cm_record::Record;
 use std::alloc::{AllocError, Global};
 use std::sync::Arc;
@@ -39,11 +40,11 @@ pub struct Sealed {
     pub last: u64,
 }
 
-/// An accepted cache, the committer of its disk, and the groups that were handed out by the one and
-/// aren't taken by the other yet.
+/// An accepted cache, the committer of its disk, and the groups that the cache handed out and the
+/// committer hasn't taken yet.
 ///
-/// Contracts tell what each call is for the abstract machine, whichever machine the session went
-/// with before it.
+/// Contracts say what each call means for the abstract machine, for any machine that the session
+/// matched before it.
 pub struct Session<D: Disk> {
     pub(crate) front: Front,
     pub(crate) committer: Committer<D>,
@@ -54,7 +55,7 @@ pub struct Session<D: Disk> {
     pub(crate) has_failed: bool,
 }
 
-// Brings into a proof's scope which change of classes a command asks for.
+// Brings into a proof's scope which change of classes a command requests.
 fn look_at(command: &Command<'_>)
     ensures { IsAsked (change_asked command.now) }
 {
@@ -91,9 +92,9 @@ impl<D: Disk> Session<D> {
     /// Accepts a command and gives it the next number, or refuses it, exactly as [`Front::accept`]
     /// does. The disk isn't touched.
     pub fn accept(&mut self, command: Command<'_>) -> Result<u64, Refusal>
-        ensures machine { (k : Machine) → GoesWith k self.old
+        ensures machine { (k : Machine) → SessionMatches k self.old
             → Accepting self.old.committer.sizes k (change_asked command.entry) result
-            (λ next. GoesWith next self.new) }
+            (λ next. SessionMatches next self.new) }
         ensures as_front { FrontAnswers self.old.front (change_asked command.entry) result
             self.new.front }
         ensures disk { self.new.committer ≡ self.old.committer }
@@ -107,22 +108,22 @@ impl<D: Disk> Session<D> {
     }
 
     /// Hands out the oldest group of accepted commands, with what was learnt by now; it waits until
-    /// the committer takes it. `None` where all commands were handed out. `Err` where an allocation
-    /// failed: then they still wait; none is made where all that was handed out is stored. The disk
-    /// isn't touched.
+    /// the committer takes it. `None` if all commands were handed out. `Err` if an allocation
+    /// failed: the commands then still wait; nothing is allocated if all that was handed out is
+    /// stored. The disk isn't touched.
     pub fn seal(&mut self) -> Result<Option<Sealed>, AllocError>
-        ensures machine { (k : Machine) → GoesWith k self.old
-            → Leads (Sealing k result) (λ next. GoesWith next self.new) }
+        ensures machine { (k : Machine) → SessionMatches k self.old
+            → ReachesMachine (Sealing k result) (λ next. SessionMatches next self.new) }
         ensures queued { Queues self.old.front self.old.queue.groups.items result self.new.front
             self.new.queue.groups.items }
-        ensures place { (k : Machine) → GoesWith k self.old → k.acknowledged ≡ k.sealed
+        ensures place { (k : Machine) → SessionMatches k self.old → k.acknowledged ≡ k.sealed
             → IsOk result }
         ensures disk { self.new.committer ≡ self.old.committer }
     {
         committed_rows_are_the_machines();
         ahead_stays_ahead();
         if self.queue.groups.reserve(1).is_err() {
-            // Where all commands were handed out, no place is needed.
+            // If all commands were handed out, no place is needed.
             return if self.front.number() == self.sealed {
                 Ok(None)
             } else {
@@ -140,11 +141,11 @@ impl<D: Disk> Session<D> {
         Ok(Some(Sealed { first, last }))
     }
 
-    /// Where nothing is under way, lets the committer take the oldest group that waits, with those
-    /// behind it as far as one group holds them.
+    /// If nothing is under way, lets the committer take the oldest waiting group, with as many of
+    /// those after it as one group holds.
     fn offer_next(&mut self)
-        ensures machine { (k : Machine) → GoesWith k self.old → GoesWith k self.new }
-        ensures taken { (k : Machine) → GoesWith k self.old → self.new.has_failed ≡ false
+        ensures machine { (k : Machine) → SessionMatches k self.old → SessionMatches k self.new }
+        ensures taken { (k : Machine) → SessionMatches k self.old → self.new.has_failed ≡ false
             → self.new.committer.underway ≡ None → self.new.queue.groups.items ≡ [] }
         ensures disk { self.new.committer.disk ≡ self.old.committer.disk }
         ensures sizes { self.new.committer.sizes ≡ self.old.committer.sizes }
@@ -162,15 +163,15 @@ impl<D: Disk> Session<D> {
             return;
         };
         let group = join_queued(group, &mut self.queue.groups);
-        let _taken = self.committer.offer(group); // it is what comes next, so it is taken
+        let _taken = self.committer.offer(group); // it is the next group, so it is taken
     }
 
-    /// Makes the next device call: where nothing is under way, the committer first takes the oldest
-    /// group that waits. As [`Committer::advance`].
+    /// Makes the next device call, as [`Committer::advance`] does. If nothing is under way, the
+    /// committer first takes the oldest waiting group.
     pub fn advance(&mut self) -> Result<Progress, AdvanceFault>
-        ensures machine { (k : Machine) → GoesWith k self.old
-            → Leads (Advancing k result) (λ next. GoesWith next self.new) }
-        ensures any_moment { (k : Machine) → GoesWith k self.old
+        ensures machine { (k : Machine) → SessionMatches k self.old
+            → ReachesMachine (Advancing k result) (λ next. SessionMatches next self.new) }
+        ensures any_moment { (k : Machine) → SessionMatches k self.old
             → LeavesOnly D.view self.old.committer.disk self.new.committer.disk
             (StandsForSome self.old.committer.sizes k) }
         ensures cause { HasRisen (D.view.failures self.old.committer.disk)
@@ -193,11 +194,11 @@ impl<D: Disk> Session<D> {
         progress
     }
 
-    /// Begins to cut the file behind the last root that committed rows use, by the next two device
-    /// calls. As [`Committer::trim`].
+    /// Begins to truncate the file after the last root that committed rows use, by the next two
+    /// device calls. As [`Committer::trim`].
     pub fn trim(&mut self) -> Result<bool, NotIdle>
-        ensures machine { (k : Machine) → GoesWith k self.old → GoesWith k self.new }
-        ensures sound { (k : Machine) → GoesWith k self.old → IsOk result → k.failed ≡ false }
+        ensures machine { (k : Machine) → SessionMatches k self.old → SessionMatches k self.new }
+        ensures sound { (k : Machine) → SessionMatches k self.old → IsOk result → k.failed ≡ false }
         ensures as_committer { BeginsTrim D.view self.old.committer result
             self.new.committer }
         ensures disk { self.new.committer.disk ≡ self.old.committer.disk }
@@ -217,13 +218,13 @@ impl<D: Disk> Session<D> {
         }
     }
 
-    /// Lets the accepted cache learn which commands are stored, so that the chunks that wait for
-    /// them are free, and tells the number of the last; and whether the device failed: then no
-    /// command is accepted any more.
+    /// Lets the accepted cache learn which commands are durable, so that the chunks that wait for
+    /// them are freed, and returns the number of the last of them. If the device failed, no command
+    /// is accepted any more.
     pub fn learn(&mut self) -> u64
-        ensures machine { (k : Machine) → GoesWith k self.old
-            → Leads (Learns k result) (λ next. GoesWith next self.new) }
-        ensures told { (k : Machine) → GoesWith k self.old
+        ensures machine { (k : Machine) → SessionMatches k self.old
+            → ReachesMachine (Learns k result) (λ next. SessionMatches next self.new) }
+        ensures told { (k : Machine) → SessionMatches k self.old
             → self.new.front.learnt ≡ self.new.committer.number }
         ensures disk { self.new.committer ≡ self.old.committer }
     {
@@ -236,9 +237,9 @@ impl<D: Disk> Session<D> {
     }
 
     /// The record of the class of a name in the loader of a name, as accepted, whether or not it is
-    /// stored.
+    /// durable.
     pub fn find(&self, loader: &[u8], class: &[u8]) -> Option<&Arc<Record, Global>>
-        ensures { (k : Machine) → GoesWith k self.now
+        ensures { (k : Machine) → SessionMatches k self.now
             → Finds self.now.committer.sizes k loader.now class.now
             (option_map (λ r. arc_value r.now) result) }
     {
@@ -249,7 +250,7 @@ impl<D: Disk> Session<D> {
     /// Does nothing: its clause says what a crash leaves now. That is all commands that were
     /// acknowledged, and none that wasn't handed out.
     pub fn images(&self)
-        ensures { (k : Machine) → GoesWith k self.now
+        ensures { (k : Machine) → SessionMatches k self.now
             → EachImage (D.view.contents self.now.committer.disk)
             (D.view.unsynced self.now.committer.disk)
             (StandsForSome self.now.committer.sizes k) }
@@ -290,22 +291,22 @@ impl<D: Disk> Session<D> {
 }
 
 impl Session<SimDisk> {
-    /// Lets the disk's next call fail; a write stores its first bytes, so many of them.
+    /// Makes the disk's next call fail; if that is a write, it stores its first `stores` bytes.
     pub fn arm(&mut self, stores: usize)
         ensures disk { self.new.committer ≡ record self.old.committer {
           disk = record self.old.committer.disk { armed = Some stores };
         } }
-        ensures machine { (k : Machine) → GoesWith k self.old → GoesWith k self.new }
+        ensures machine { (k : Machine) → SessionMatches k self.old → SessionMatches k self.new }
     {
         self.committer.arm(stores);
     }
 
-    /// Lets the disk's next call pass.
+    /// Lets the disk's next call succeed.
     pub fn disarm(&mut self)
         ensures disk { self.new.committer ≡ record self.old.committer {
           disk = record self.old.committer.disk { armed = None };
         } }
-        ensures machine { (k : Machine) → GoesWith k self.old → GoesWith k self.new }
+        ensures machine { (k : Machine) → SessionMatches k self.old → SessionMatches k self.new }
     {
         self.committer.disarm();
     }

@@ -1,30 +1,30 @@
-//! One command after another: each is stored before the next is accepted.
+//! Stores one command after another: each is durable before the next is accepted.
 
 ghost use Rattle.std.specs.Prelude.{◌≡◌, true, Err};
 ghost use Rattle.cm_guards.specs.Calls.{LeavesOnly};
-ghost use Rattle.cm_prepare.specs.Commands.{change_asked};
+ghost use Rattle.cm_commands.specs.Commands.{change_asked};
 ghost use Rattle.cm_front.specs.Accepting.{IsReason};
 ghost use Rattle.cm_commit.specs.Advances.{HasRisen};
-ghost use Rattle.cm_machine.specs.Machine.{Machine};
+ghost use Rattle.cm_commands.specs.Machine.{Machine};
 ghost use Rattle.cm_session.specs.Images.{StandsForSome};
-ghost use Rattle.cm_session.specs.Moves.{GoesWith, Leads, Advancing};
+ghost use Rattle.cm_session.specs.Moves.{SessionMatches, ReachesMachine, Advancing};
 ghost use Rattle.cm_session.specs.Storing.{IsWorking, IsAtRest, Storing, FailsOnly, MakesNoCall};
-ghost use Rattle.cm_session.specs.Storing.{TellsFront, IsTrimmed, NoTrim, refusal_told};
+ghost use Rattle.cm_session.specs.Storing.{TellsFront, HasTrimmed, NoTrim, refusal_told};
 
 use crate::session::Session;
+use cm_commands::{Command, Refusal};
 use cm_commit::{AdvanceFault, Progress};
 use cm_disk::Disk;
-use cm_prepare::{Command, Refusal};
 use thiserror::Error;
 
-/// Why a command isn't known to be stored, with the text of the refusal that tells of it.
+/// Why a command isn't known to be durable, with the text of the refusal that reports it.
 #[derive(Clone, Copy, Debug, PartialEq, Eq, Error)]
 #[error("{refusal}", refusal = Refusal::from(*self))]
 pub enum NotStored {
     /// The command is refused; nothing changed.
     Refused(Refusal),
-    /// The device failed while the command of this number was being stored: the file holds it, or
-    /// it doesn't. No further command is accepted.
+    /// The device failed while the command of this number was being stored: the file may or may not
+    /// hold it. No further command is accepted.
     Unsure(u64),
 }
 
@@ -47,8 +47,8 @@ fn is_working(progress: &Result<Progress, AdvanceFault>) -> bool
 }
 
 fn is_trimmed(progress: &Result<Progress, AdvanceFault>) -> bool
-    ensures is { result ≡ true → IsTrimmed progress.now }
-    ensures whenever { IsTrimmed progress.now → result ≡ true }
+    ensures is { result ≡ true → HasTrimmed progress.now }
+    ensures whenever { HasTrimmed progress.now → result ≡ true }
 {
     matches!(progress, Ok(Progress::Trimmed(_)))
 }
@@ -57,17 +57,17 @@ impl<D: Disk> Session<D> {
     /// Makes device calls until a group is stored, a trim is done, the device fails, or nothing is
     /// left to do.
     fn advance_work(&mut self) -> Result<Progress, AdvanceFault>
-        ensures machine { (k : Machine) → GoesWith k self.old
-            → Leads (Advancing k result) (λ next. GoesWith next self.new) }
+        ensures machine { (k : Machine) → SessionMatches k self.old
+            → ReachesMachine (Advancing k result) (λ next. SessionMatches next self.new) }
         ensures ends { IsWorking result → ⊥ }
-        ensures any_moment { (k : Machine) → GoesWith k self.old
+        ensures any_moment { (k : Machine) → SessionMatches k self.old
             → LeavesOnly D.view self.old.committer.disk self.new.committer.disk
             (StandsForSome self.old.committer.sizes k) }
         ensures cause { HasRisen (D.view.failures self.old.committer.disk)
             (D.view.failures self.new.committer.disk) result }
         ensures sizes { self.new.committer.sizes ≡ self.old.committer.sizes }
-        ensures stays { NoTrim self.old.committer.underway → IsTrimmed result → ⊥ }
-        ensures trimmed { IsTrimmed result → NoTrim self.new.committer.underway }
+        ensures stays { NoTrim self.old.committer.underway → HasTrimmed result → ⊥ }
+        ensures trimmed { HasTrimmed result → NoTrim self.new.committer.underway }
     {
         let mut progress = self.advance();
         while is_working(&progress) {
@@ -78,11 +78,11 @@ impl<D: Disk> Session<D> {
 
     /// Makes device calls until a group is stored, the device fails, or nothing is left to do.
     fn advance_group(&mut self) -> Result<Progress, AdvanceFault>
-        ensures machine { (k : Machine) → GoesWith k self.old
-            → Leads (Advancing k result) (λ next. GoesWith next self.new) }
+        ensures machine { (k : Machine) → SessionMatches k self.old
+            → ReachesMachine (Advancing k result) (λ next. SessionMatches next self.new) }
         ensures ends { IsWorking result → ⊥ }
-        ensures past_trims { IsTrimmed result → ⊥ }
-        ensures any_moment { (k : Machine) → GoesWith k self.old
+        ensures past_trims { HasTrimmed result → ⊥ }
+        ensures any_moment { (k : Machine) → SessionMatches k self.old
             → LeavesOnly D.view self.old.committer.disk self.new.committer.disk
             (StandsForSome self.old.committer.sizes k) }
         ensures cause { HasRisen (D.view.failures self.old.committer.disk)
@@ -96,23 +96,23 @@ impl<D: Disk> Session<D> {
         progress
     }
 
-    /// Accepts a command and stores it: at `Ok`, with its number, no crash loses it any more.
+    /// Accepts a command and stores it: after `Ok`, with its number, no crash loses it any more.
     ///
     /// A refusal is exactly that of [`Front::accept`](cm_front::Front::accept).
     ///
-    /// For a session in which everything accepted is stored, as it is when it was opened, and as
-    /// it is again after an `Ok` or a refusal. Where groups wait, memory for one more may be
-    /// refused too: that is `Unsure`, and the command waits.
+    /// This is for a session in which everything accepted is durable, as it is when it was just
+    /// opened, and as it is again after an `Ok` or a refusal. If groups wait, the allocation for
+    /// one more may fail too: that is `Unsure`, and the command waits.
     pub fn store(&mut self, command: Command<'_>) -> Result<u64, NotStored>
-        ensures machine { (k : Machine) → GoesWith k self.old → IsAtRest k
+        ensures machine { (k : Machine) → SessionMatches k self.old → IsAtRest k
             → Storing self.old.committer.sizes k (change_asked command.entry)
             (LeavesOnly D.view self.old.committer.disk self.new.committer.disk)
-            result (λ next. GoesWith next self.new) }
-        ensures cause { (k : Machine) → GoesWith k self.old → IsAtRest k
+            result (λ next. SessionMatches next self.new) }
+        ensures cause { (k : Machine) → SessionMatches k self.old → IsAtRest k
             → FailsOnly (D.view.failures self.old.committer.disk)
             (D.view.failures self.new.committer.disk)
             result }
-        ensures told { (k : Machine) → GoesWith k self.old → IsAtRest k
+        ensures told { (k : Machine) → SessionMatches k self.old → IsAtRest k
             → TellsFront self.old result self.new }
         ensures refused { (refusal : Refusal) → result ≡ Err (NotStored.Refused refusal)
             → IsReason self.old.front (change_asked command.entry) refusal }

@@ -10,20 +10,20 @@ use thiserror::Error;
 
 const DISK: &str = "disk";
 
-/// What the command line asks for.
+/// What the command line requests.
 #[derive(Debug, Drop)]
 pub enum Request {
-    /// To run the simulation on standard input; if there is a path, the bytes that its disk has
-    /// at the end go to that file.
+    /// To run the simulation on standard input; if there is a path, the final bytes of its disk are
+    /// written to that file.
     Run(Option<String>),
     /// Nothing more: the help or a usage text was printed. The status to end with.
     Printed(u8),
 }
 
-/// Why the command line isn't known, or its help not printed.
+/// Why the command line isn't known, or its help wasn't printed.
 #[derive(Clone, Copy, Debug, PartialEq, Eq, Error)]
 pub enum WordsFault {
-    #[error("the command line can't be read")]
+    #[error("cannot read the arguments")]
     Words,
     #[error("the output failed")]
     Output,
@@ -61,8 +61,8 @@ fn words(rt: &(impl Env + AllocGlobal)) -> Result<Option<Vec<String>>, WordsFaul
     }
 }
 
-/// Prints the help or what is wrong with the words, and gives the status: of wrong words it is
-/// [`UNKNOWN`], though their text may not reach anyone.
+/// Prints the help or what is wrong with the words, and returns the status: for wrong words it is
+/// [`UNKNOWN`], even if the text couldn't be written.
 fn print_text(rt: &(impl Print + Eprint), text: &Error) -> Result<Request, WordsFault> {
     if text.kind() == ErrorKind::OutOfMemory {
         return Err(WordsFault::NoMemory);
@@ -82,7 +82,7 @@ pub fn read_words(rt: &(impl Env + Print + Eprint + AllocGlobal)) -> Result<Requ
     let alloc = rt.alloc();
     let mut command = whole_command(alloc)?;
     let Some(words) = words(rt)? else {
-        let text = command.error(ErrorKind::ValueValidation, "a word is not UTF-8")?;
+        let text = command.error(ErrorKind::ValueValidation, "an argument is not UTF-8")?;
         return print_text(rt, &text);
     };
     match command.try_get_matches_from(words.as_slice()) {

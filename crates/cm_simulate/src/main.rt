@@ -1,7 +1,7 @@
 //! `cm_simulate`: a cache in memory that is stopped, damaged by faults and crashed at will.
 //!
-//! Standard input is a line `geometry TOP ROOTS SLOTS` and then events, one a line; each of them is
-//! answered by one line.
+//! Standard input is a line `geometry TOP ROOTS SLOTS` and then events, one per line; the reply to
+//! each of them is one line.
 #![tactic(auto)]
 
 mod command;
@@ -18,10 +18,10 @@ use thiserror::Error;
 /// The command line or a line of the input isn't known.
 const UNKNOWN: u8 = 2;
 
-/// Memory, the input or the output failed.
+/// An allocation, the input or the output failed.
 const FAILED: u8 = 3;
 
-/// Why the program doesn't do what it is asked for.
+/// Why the program doesn't do what is requested.
 #[derive(Clone, Copy, Debug, Error)]
 enum Fault {
     #[error("{0}")]
@@ -42,7 +42,7 @@ fn main(rt: HostRuntime) -> ExitCode {
     ExitCode::from(run(&rt))
 }
 
-/// Does what the command line asks for, and gives the status.
+/// Does what the command line requests, and returns the status.
 fn run(rt: &(impl Env + Input + Print + Eprint + AllocGlobal + Files<File = File>)) -> u8 {
     let done = match read_words(rt) {
         Ok(Request::Printed(status)) => return status,
@@ -65,7 +65,7 @@ fn status_of(fault: Fault) -> u8 {
     }
 }
 
-/// Runs the simulation on standard input. The bytes that its disk has at the end go to the file of
+/// Runs the simulation on standard input. The final bytes of its disk are written to the file at
 /// this path.
 fn simulate_input(
     rt: &(impl Input + Print + AllocGlobal + Files<File = File>),

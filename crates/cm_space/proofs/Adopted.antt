@@ -1,4 +1,4 @@
--- A place that is taken over, and what it leaves to others.
+-- An adopted place, and what it leaves to others.
 -- For `Space::adopt`, `adopt_front`, `adopt_place`.
 use Rattle.std.proofs.Common.{◌≡◌, ℕ, suc, ◌+◌, ◌-◌, ◌≤◌, ◌<◌, Bool, true, false, cond, eqb, List}
 use Rattle.std.proofs.Common.{[], ◌∷◌, ◌++◌, refl, sym, ap, ◌∙◌, subst, inl, inr, arith}
@@ -15,8 +15,8 @@ use Rattle.cm_pool.specs.Places.{IsInside}
 use Rattle.cm_pool.proofs.{each-among, among-left}
 use Rattle.cm_pool.proofs.{same_chunk-true}
 use Rattle.cm_pool.proofs.SpaceLaws.{taken_is_held, taking_loses_none}
-use Rattle.cm_arena.specs.Chains.{Filled, chunks_of}
-use Rattle.cm_arena.specs.Placing.{next_offset, with_place, IsNext}
+use Rattle.cm_arena.specs.Chains.{Filled, chain_chunks}
+use Rattle.cm_arena.specs.Placing.{next_offset, with_place, IsNextPlace}
 use Rattle.cm_space.specs.Adopting.{reaching, pool_after, IsAdoptable, IsOnTheWay}
 use Rattle.cm_space.proofs.Rooted.{rooted-held, rooted-kept, reaching-free, reaching-present}
 use Rattle.cm_space.proofs.Spaces.{KeepsOthers}
@@ -27,19 +27,19 @@ free-not_used p c free used =
     let some : c.at < c.at + chunk_size c.order = omega (arith, pow_pos c.order) in
     used.words c.at (omega arith) some (free.words c.at (omega arith) some)
 
--- so a free one is none of a chain's
+-- so a free chunk is in no chain
 pub free-not_among : (p : FreeSpace) (cs rest : List Chunk) (c : Chunk) → AreHeld p (cs ++ rest)
     → IsFreeChunk p c → ¬ Among c cs
 free-not_among p cs rest c held free m =
     free-not_used p c free (each-among (IsUsedChunk p) (cs ++ rest) c held.each
     (among-left c cs rest m))
 
--- where a chunk is none of the chain's, the next place in it is at its front
+-- if a chunk isn't in the chain, the next place in it is at its front
 record IsNew (chain : List Filled) (place : Place) : Type 0 where
   offset : next_offset chain place.chunk ≡ 0
-  chunks : chunks_of (with_place chain place) ≡ chunks_of chain ++ place.chunk ∷ []
+  chunks : chain_chunks (with_place chain place) ≡ chain_chunks chain ++ place.chunk ∷ []
 
-not_among-new : (chain : List Filled) (place : Place) → ¬ Among place.chunk (chunks_of chain)
+not_among-new : (chain : List Filled) (place : Place) → ¬ Among place.chunk (chain_chunks chain)
     → IsNew chain place
 not_among-new [] place h = record { offset = refl; chunks = refl }
 not_among-new (f ∷ []) place h = by_test (same_chunk f.chunk place.chunk) refl
@@ -52,11 +52,11 @@ not_among-new (f ∷ g ∷ rest) place h =
     record { offset = more.offset; chunks = ap (λ cs. f.chunk ∷ cs) more.chunks }
 
 chunks-on_top : (chain : List Filled) (place : Place) → 0 < next_offset chain place.chunk
-    → chunks_of (with_place chain place) ≡ chunks_of chain
+    → chain_chunks (with_place chain place) ≡ chain_chunks chain
 chunks-on_top [] place h = absurd (omega (arith, h))
 chunks-on_top (f ∷ []) place h =
     elim (same_chunk f.chunk place.chunk) as (λ b. 0 < cond b f.used 0
-    → chunks_of (cond b (record { chunk = f.chunk; used = f.used + place.words } ∷ [])
+    → chain_chunks (cond b (record { chunk = f.chunk; used = f.used + place.words } ∷ [])
     (f ∷ record { chunk = place.chunk; used = place.words } ∷ [])) ≡ f.chunk ∷ []) [
       | true ↦ λ _. refl
       | false ↦ λ none. absurd (omega (arith, none))
@@ -65,12 +65,12 @@ chunks-on_top (f ∷ g ∷ rest) place h = ap (λ cs. f.chunk ∷ cs) (chunks-on
 
 -- a place at the front of a free chunk is the next one
 pub front-next : (p : FreeSpace) (chain : List Filled) (rest : List Chunk) (place : Place)
-    → AreHeld p (chunks_of chain ++ rest) → IsInside place → place.offset ≡ 0
-    → IsFreeChunk p place.chunk → IsNext chain place
+    → AreHeld p (chain_chunks chain ++ rest) → IsInside place → place.offset ≡ 0
+    → IsFreeChunk p place.chunk → IsNextPlace chain place
 front-next p chain rest place held inside front free = record {
   inside = inside;
   offset = front ∙ sym (not_among-new chain place
-      (free-not_among p (chunks_of chain) rest place.chunk held free)).offset;
+      (free-not_among p (chain_chunks chain) rest place.chunk held free)).offset;
 }
 
 pub after-front : (p : FreeSpace) (place : Place) → place.offset ≡ 0
@@ -92,22 +92,22 @@ front-keeps : (p : FreeSpace) (chain : List Filled) (place : Place) → place.of
 front-keeps p chain place front free =
     let q = reaching p place.chunk.root in
     let n = suc place.chunk.root - p.roots in
-    let chunks : (rest : List Chunk) → AreHeld q (chunks_of chain ++ rest)
-    → chunks_of chain ++ place.chunk ∷ rest ≡ chunks_of (with_place chain place) ++ rest =
+    let chunks : (rest : List Chunk) → AreHeld q (chain_chunks chain ++ rest)
+    → chain_chunks chain ++ place.chunk ∷ rest ≡ chain_chunks (with_place chain place) ++ rest =
     λ rest held. sym (ap (λ cs. cs ++ rest)
     (not_among-new chain place
-    (free-not_among q (chunks_of chain) rest place.chunk held free)).chunks
-    ∙ append_assoc (chunks_of chain) (place.chunk ∷ []) rest) in
+    (free-not_among q (chain_chunks chain) rest place.chunk held free)).chunks
+    ∙ append_assoc (chain_chunks chain) (place.chunk ∷ []) rest) in
     record {
       held = λ rest h.
-          let more = rooted-held p n (chunks_of chain ++ rest) h in
+          let more = rooted-held p n (chain_chunks chain ++ rest) h in
           subst (λ (cs : List Chunk). AreHeld (without q place.chunk) cs) (chunks rest more)
-          (taken_is_held q (chunks_of chain) place.chunk rest more free);
+          (taken_is_held q (chain_chunks chain) place.chunk rest more free);
       kept = λ rest h kept.
-          let more = rooted-held p n (chunks_of chain ++ rest) h in
+          let more = rooted-held p n (chain_chunks chain ++ rest) h in
           subst (λ (cs : List Chunk). NoneIsLost (without q place.chunk) cs) (chunks rest more)
-          (taking_loses_none q (chunks_of chain) place.chunk rest
-          (rooted-kept p n (chunks_of chain ++ rest) kept) free);
+          (taking_loses_none q (chain_chunks chain) place.chunk rest
+          (rooted-kept p n (chain_chunks chain ++ rest) kept) free);
     }
 
 top-keeps : (p : FreeSpace) (chain : List Filled) (place : Place)
@@ -135,14 +135,14 @@ adopted-keeps p chain place h =
           (top-keeps p chain place (omega (arith, h.next.offset)))
     ]
 
--- roots more change nothing of what is held
+-- more roots change nothing of what is held
 pub rooted-keeps : (p q : FreeSpace) (root : ℕ) (chain : List Filled) → IsOnTheWay p root q
     → KeepsOthers p chain q chain
 rooted-keeps p q root chain way = record {
-  held = λ rest h. subst (λ (r : FreeSpace). AreHeld r (chunks_of chain ++ rest)) (sym way.left)
-      (rooted-held p way.count (chunks_of chain ++ rest) h);
-  kept = λ rest h kept. subst (λ (r : FreeSpace). NoneIsLost r (chunks_of chain ++ rest))
-      (sym way.left) (rooted-kept p way.count (chunks_of chain ++ rest) kept);
+  held = λ rest h. subst (λ (r : FreeSpace). AreHeld r (chain_chunks chain ++ rest)) (sym way.left)
+      (rooted-held p way.count (chain_chunks chain ++ rest) h);
+  kept = λ rest h kept. subst (λ (r : FreeSpace). NoneIsLost r (chain_chunks chain ++ rest))
+      (sym way.left) (rooted-kept p way.count (chain_chunks chain ++ rest) kept);
 }
 
 pub same-keeps : (p : FreeSpace) (chain : List Filled) → KeepsOthers p chain p chain
@@ -154,14 +154,14 @@ pub record IsAtFront (chain : List Filled) (p : FreeSpace) (place : Place) : Typ
   pub inside : IsInside place
   pub within : IsChunk p.geometry place.chunk
   pub rest : List Chunk
-  pub held : AreHeld p (chunks_of chain ++ rest)
+  pub held : AreHeld p (chain_chunks chain ++ rest)
 
--- it is adoptable where the chunk is free once its root is present
+-- the place is adoptable if the chunk is free once its root is present
 pub free-adoptable : (chain : List Filled) (p : FreeSpace) (place : Place) → IsAtFront chain p place
     → IsFreeChunk (reaching p place.chunk.root) place.chunk → IsAdoptable chain p place
 free-adoptable chain p place at free =
     let more =
-    rooted-held p (suc place.chunk.root - p.roots) (chunks_of chain ++ at.rest) at.held in
+    rooted-held p (suc place.chunk.root - p.roots) (chain_chunks chain ++ at.rest) at.held in
     record {
       next = front-next (reaching p place.chunk.root) chain at.rest place more at.inside
           at.front free;
@@ -179,7 +179,7 @@ pub front-iff : (chain : List Filled) (p : FreeSpace) (place : Place) → IsAtFr
 front-iff chain p place at b h =
     (λ t. free-adoptable chain p place at (h.0 t), λ a. h.1 (a.front at.front).1)
 
--- where it isn't free, no root was added
+-- if the chunk isn't free, no root was added
 pub front-left : (chain : List Filled) (p q : FreeSpace) (place : Place) → IsAtFront chain p place
     → (b : Bool) → (IsTrue b ↔ IsFreeChunk (reaching p place.chunk.root) place.chunk)
     → q ≡ cond b (without (reaching p place.chunk.root) place.chunk) (reaching p place.chunk.root)
@@ -192,9 +192,9 @@ front-left chain p q place at false h e =
           absurd (cc)
     ]
 
--- ---- of what an arena and a pool are after it
+-- ---- the arena and the pool afterwards
 
--- what a place leaves, whatever the answer is
+-- what adopting a place leaves, whatever the result is
 pub answer-keeps : {E : Type 0} (r : Result Bool E) (p q : FreeSpace) (chain next : List Filled)
     (place : Place)
     → IfOk r (λ taken. IsTrue taken ↔ IsAdoptable chain p place)

@@ -1,4 +1,5 @@
--- Lists of chunks that are held alike, as the order in which chunks stand makes no difference.
+-- Lists of chunks that can replace each other when held, as the order of chunks makes no
+-- difference.
 -- For `Space::add_loader`, `Space::adopt`, `Space::chunks` and others.
 use Rattle.std.proofs.Common.{◌≡◌, List, ◌++◌, sym, subst, inl, inr, append_assoc}
 use Rattle.cm_pool.specs.declared.chunk.Chunk.{Chunk}
@@ -8,7 +9,7 @@ use Rattle.cm_pool.specs.Held.{AreHeld, NoneIsLost}
 use Rattle.cm_pool.proofs.{meets-turned}
 use Rattle.cm_space.proofs.Lists.{each-trade, pairs-trade, among-trade}
 
--- whatever stands before: where the ones are held and none is lost, so with the others
+-- whatever comes before: if the ones are held and no word is lost, the same holds with the others
 pub record IsAlike (xs ys : List Chunk) : Type 0 where
   pub held : (p : FreeSpace) (front : List Chunk) → AreHeld p (front ++ xs)
       → AreHeld p (front ++ ys)
@@ -43,7 +44,7 @@ alike-trade a b c = record {
   };
 }
 
--- behind the same chunks
+-- after the same chunks
 pub alike-behind : (a xs ys : List Chunk) → IsAlike xs ys → IsAlike (a ++ xs) (a ++ ys)
 alike-behind a xs ys h = record {
   held = λ p front was.

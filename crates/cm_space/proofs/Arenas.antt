@@ -1,4 +1,4 @@
--- Arenas as a finite map: what its entries make of a change, and whose chunks stand in them.
+-- Arenas as a finite map: how a change affects its entries, and which loaders' chunks are in them.
 -- For `Space::add_loader`, `Space::adopt`, `Space::chunks` and others.
 use Rattle.std.proofs.Common.{◌≡◌, ℕ, Bool, true, false, cond, not, T, List, [], ◌∷◌, ◌++◌, Option}
 use Rattle.std.proofs.Common.{Some, None, refl, sym, ap, ◌∙◌, append_assoc}
@@ -13,7 +13,7 @@ use Rattle.std.specs.FinMap as map
 use Rattle.std.specs.FinMap.Entries.{put, where_key, find, below_all, is_sorted, by_order}
 use Rattle.std.specs.FinMap.Entries.{is_sorted-where_key, find-where_key}
 use Rattle.cm_pool.specs.declared.chunk.Chunk.{Chunk}
-use Rattle.cm_arena.specs.Chains.{Filled, chunks_of}
+use Rattle.cm_arena.specs.Chains.{Filled, chain_chunks}
 use Rattle.cm_space.specs.Ownership.{owned_chunks}
 use Rattle.cm_space.proofs.Alike.{IsAlike, alike-same, alike-then, alike-trade, alike-behind}
 
@@ -36,7 +36,7 @@ less Greater p = absurd p
 pub same_key : (q k : ℕ) → is_eq (nat_cmp q k) ≡ true → q ≡ k
 same_key q k e = map.nat_cmp-IsAntisymmetric q k ((Equal-is (nat_cmp q k)).0 e)
 
--- what the map that entries make has for a loader
+-- what a map made from entries has for a loader
 pub find-lookup : (es : Entries) (q : ℕ) → find nat_cmp q es ≡ lookup (λ k. is_eq (nat_cmp q k)) es
 find-lookup [] q = refl
 find-lookup (e ∷ es) q = ap (cond (is_eq (nat_cmp q e.0)) (Some e.1)) (find-lookup es q)
@@ -45,7 +45,7 @@ pub get-lookup : (es : Entries) (q : ℕ)
     → map.get (map.from_entries {R = nat_cmp} es) q ≡ lookup (λ k. is_eq (nat_cmp q k)) es
 get-lookup es q = map.get-from_entries nat_cmp_total es q ∙ find-lookup es q
 
--- the entries have a value more, or another one, for k
+-- the entries have one more value, or a different one, for k
 abbrev pub Sets : Entries → Entries → ℕ → Option (List Filled) → Type 0
 Sets old new k v = (q : ℕ) → lookup (λ j. is_eq (nat_cmp q j)) new
     ≡ cond (is_eq (nat_cmp k q)) v (lookup (λ j. is_eq (nat_cmp q j)) old)
@@ -73,7 +73,7 @@ Arenas = map.FinMap nat_cmp (List Filled)
 chosen : {W : Type 0} (a b : Bool) (w v : W) → a ≡ b → cond a w v ≡ cond b w v
 chosen a b w v e = ap (λ c. cond c w v) e
 
--- to insert what is there changes nothing
+-- inserting the value that is there changes nothing
 pub insert-had : (m : Arenas) (k : ℕ) (v : List Filled) → map.get m k ≡ Some v
     → map.insert m k v ≡ m
 insert-had m k v had = map.same_map nat_cmp_total map.nat_cmp-IsAntisymmetric _ _ (λ q.
@@ -89,7 +89,7 @@ pub get-inserted : (m : Arenas) (k : ℕ) (v : List Filled) → map.get (map.ins
 get-inserted m k v = map.get-insert nat_cmp_total m k v k ∙ ap
     (λ b. cond b (Some v) (map.get m k)) ((eq_by_cmp_equiv nat_cmp_total).refl k)
 
--- ---- whose chunks stand in the entries
+-- ---- which loaders' chunks are in the entries
 
 -- the entries of the others
 abbrev pub others : ℕ → Entries → Entries
@@ -117,28 +117,29 @@ others-all k [] h = refl
 others-all k (e ∷ es) h = ap (λ r. cond (not (is_eq r)) (e ∷ others k es) (others k es)) h.0 ∙ ap
     (λ l. e ∷ l) (others-all k es h.1)
 
--- an arena that is put among the others
+-- an arena that is inserted among the others
 pub record IsPut (k : ℕ) (v : List Filled) (es : Entries) (rest : List Chunk)
     (new : Entries) : Type 0 where
-  pub out : IsAlike (owned_chunks new ++ rest) (chunks_of v ++ (owned_chunks (others k es) ++ rest))
-  pub back : IsAlike (chunks_of v ++ (owned_chunks (others k es) ++ rest))
+  pub out : IsAlike (owned_chunks new ++ rest)
+      (chain_chunks v ++ (owned_chunks (others k es) ++ rest))
+  pub back : IsAlike (chain_chunks v ++ (owned_chunks (others k es) ++ rest))
       (owned_chunks new ++ rest)
 
 put-first : (k j : ℕ) (v : List Filled) (es tail : Entries) (rest : List Chunk)
     → others k es ≡ tail → IsPut k v es rest ((j, v) ∷ tail)
 put-first k j v es tail rest e =
-    let same : owned_chunks ((j, v) ∷ tail) ++ rest ≡ chunks_of v
+    let same : owned_chunks ((j, v) ∷ tail) ++ rest ≡ chain_chunks v
     ++ (owned_chunks (others k es) ++ rest) =
-    append_assoc (chunks_of v) (owned_chunks tail) rest
-    ∙ ap (λ l. chunks_of v ++ (owned_chunks l ++ rest)) (sym e) in
+    append_assoc (chain_chunks v) (owned_chunks tail) rest
+    ∙ ap (λ l. chain_chunks v ++ (owned_chunks l ++ rest)) (sym e) in
     record { out = alike-same _ _ same; back = alike-same _ _ (sym same) }
 
 put-behind : (k : ℕ) (v : List Filled) (e : ℕ × List Filled) (es new : Entries) (rest : List Chunk)
     → others k (e ∷ es) ≡ e ∷ others k es → IsPut k v es rest new
     → IsPut k v (e ∷ es) rest (e ∷ new)
 put-behind k v e es new rest kept h =
-    let mine = chunks_of v in
-    let his = chunks_of e.1 in
+    let mine = chain_chunks v in
+    let his = chain_chunks e.1 in
     let left = owned_chunks (others k es) in
     let start : owned_chunks (e ∷ new) ++ rest ≡ his ++ (owned_chunks new ++ rest) =
     append_assoc his (owned_chunks new) rest in
@@ -176,31 +177,32 @@ put-is_put k v (e ∷ es) rest sorted =
 abbrev pub owned : Arenas → List Chunk
 owned m = owned_chunks (map.entries m)
 
--- the chunks of all but one
+-- the chunks of all loaders but one
 abbrev pub of_others : Arenas → ℕ → List Chunk
 of_others m k = owned_chunks (others k (map.entries m))
 
 pub insert-out : (m : Arenas) (k : ℕ) (v : List Filled) (rest : List Chunk)
-    → IsAlike (owned (map.insert m k v) ++ rest) (chunks_of v ++ (of_others m k ++ rest))
+    → IsAlike (owned (map.insert m k v) ++ rest) (chain_chunks v ++ (of_others m k ++ rest))
 insert-out m k v rest = alike-then _ _ _
     (alike-same _ _ (ap (λ es. owned_chunks es ++ rest) (map.entries-insert nat_cmp_total m k v)))
     (put-is_put k v (map.entries m) rest (map.entries_sorted m)).out
 
 pub insert-back : (m : Arenas) (k : ℕ) (v : List Filled) (rest : List Chunk)
-    → IsAlike (chunks_of v ++ (of_others m k ++ rest)) (owned (map.insert m k v) ++ rest)
+    → IsAlike (chain_chunks v ++ (of_others m k ++ rest)) (owned (map.insert m k v) ++ rest)
 insert-back m k v rest =
     alike-then _ _ _ (put-is_put k v (map.entries m) rest (map.entries_sorted m)).back
     (alike-same _ _ (sym (ap (λ es. owned_chunks es ++ rest)
     (map.entries-insert nat_cmp_total m k v))))
 
--- what is there may be taken apart in the same way
+-- a value that is there splits the chunks in the same way
 pub had-out : (m : Arenas) (k : ℕ) (v : List Filled) (rest : List Chunk) → map.get m k ≡ Some v
-    → IsAlike (owned m ++ rest) (chunks_of v ++ (of_others m k ++ rest))
+    → IsAlike (owned m ++ rest) (chain_chunks v ++ (of_others m k ++ rest))
 had-out m k v rest had =
     alike-then _ _ _ (alike-same _ _ (ap (λ n. owned n ++ rest) (sym (insert-had m k v had))))
     (insert-out m k v rest)
 
--- the others' entries are all where there is none, and those that are left where it is removed
+-- the others' entries are all entries if the loader has none, and those that are left if its entry
+-- is removed
 pub remove-others : (m : Arenas) (k : ℕ) → map.entries (map.remove m k) ≡ others k (map.entries m)
 remove-others m k =
     let es = others k (map.entries m) in

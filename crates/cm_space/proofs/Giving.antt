@@ -1,4 +1,4 @@
--- Chunks that are made free, and the others stay held.
+-- Chunks are freed, and the others stay held.
 -- For `free_due`, `give_all`.
 use Rattle.std.proofs.Common.{◌≡◌, ℕ, ◌<◌, ◌≤◌, Bool, true, false, cond, List, [], ◌∷◌, ◌++◌, refl}
 use Rattle.std.proofs.Common.{sym, ap, ◌∙◌, ◌+◌, subst, append_assoc, arith, length, drop, get_or}
@@ -47,7 +47,7 @@ chunks-append (v ∷ vs) ws = ap
 
 -- ---- which are due
 
--- nothing is due where each waits for a greater number
+-- nothing is due if each waits for a greater number
 pub record NoneDue (n : ℕ) (ws : List WaitingChunks) : Type 0 where
   pub none : due n ws ≡ []
   pub all : not_due n ws ≡ ws
@@ -85,7 +85,7 @@ pub due-first : (n : ℕ) (w : WaitingChunks) (ws : List WaitingChunks) → w.nu
     → (due n (w ∷ ws) ≡ w ∷ due n ws) × (not_due n (w ∷ ws) ≡ not_due n ws)
 due-first n w ws h = let e = is_due n w.number h in (rw (e.0) refl, rw (e.1) refl)
 
--- those that are due stand before the others
+-- chunks that are due come before the others
 pub due-parts : (n : ℕ) (ws : List WaitingChunks) → Rises ws → ws ≡ due n ws ++ not_due n ws
 due-parts n [] rises = refl
 due-parts n (w ∷ ws) rises = by_test (nat_le w.number n) refl (due-parts n ws rises.1)
@@ -130,9 +130,9 @@ pub drop-given : (p : FreeSpace) (cs : List Chunk) (i : ℕ) (d : Chunk) → i <
     → with_chunks p (drop i cs) ≡ with_chunks (with_chunk p (get_or cs i d)) (drop (i + 1) cs)
 drop-given p cs i d lt = ap (with_chunks p) (drop_more cs i d lt)
 
--- ---- one step of a walk over what waits
+-- ---- one step of a walk over waiting chunks
 
--- what is known of what is left while the oldest of it is made free
+-- what is known of what is left while the oldest chunks are freed
 pub record IsUnderWay (n : ℕ) (p : FreeSpace) (ws : List WaitingChunks) (q : FreeSpace)
     (vs : List WaitingChunks) : Type 0 where
   pub held : AreHeld q (waiting_chunks vs)

@@ -1,4 +1,4 @@
--- Which words are free once a number is learnt.
+-- Which words are free after a number is learnt.
 -- On `LearningFreesDue`.
 use Rattle.std.proofs.Common.{◌≡◌, ℕ, ◌≤◌, Bool, true, false, cond, List, [], ◌∷◌, ◌++◌, refl, sym}
 use Rattle.std.proofs.Common.{ap, ◌∙◌, subst, inl, inr, ◌⊎◌, ◌↔◌}
@@ -16,7 +16,7 @@ use Rattle.cm_space.proofs.Giving.{due-parts, chunks-append, is_due-true}
 use Rattle.cm_space.proofs.Spaces.{waiting-held}
 use Rattle.cm_space.proofs.Owners.{waits-among, among-waits}
 
--- a word of held chunks that are made free is free, and every other as before
+-- the words of freed chunks are free, and every other word is as before
 free-given : (p : FreeSpace) (cs back : List Chunk) (root word : ℕ) → AreHeld p (cs ++ back)
     → IsFreeWord (with_chunks p cs) root word ↔ (IsFreeWord p root word ⊎ IsHeldWord cs root word)
 free-given p [] back root word h =

@@ -1,4 +1,4 @@
--- Facts on lists: what holds of all elements, pair by pair, and which stand in a list.
+-- Facts on lists: what holds for all elements, or for each pair, and which are in a list.
 -- For `Space::add_loader`, `Space::adopt`, `Space::chunks` and others.
 use Rattle.std.proofs.Common.{List, [], ◌∷◌, ◌++◌, sym, subst, inl, inr}
 use Rattle.std.specs.List.{AllByRecursion}
@@ -7,7 +7,7 @@ use Rattle.cm_pool.proofs.{each-weaker, each-among, each-join, each-front, each-
 use Rattle.cm_pool.proofs.{among-left, among-right, among-append}
 
 module _ {X : Type 0} where
-  -- two parts trade places behind a first one
+  -- two parts change places after a first one
   pub each-trade : (P : X → Type 0) (front a b c : List X)
       → AllByRecursion P (front ++ (a ++ (b ++ c))) → AllByRecursion P (front ++ (b ++ (a ++ c)))
   each-trade P front a b c h =

@@ -1,4 +1,4 @@
--- Who has which chunk, from the lists of chunks.
+-- Who holds which chunk, from the lists of chunks.
 -- On `WaitingChunks`, `waiting_chunks`, `SpaceState`.
 use Rattle.std.proofs.Common.{◌≡◌, ℕ, Bool, true, false, cond, not, T, List, [], ◌∷◌, ◌++◌}
 use Rattle.std.proofs.Common.{Some, None, refl, sym, ap, ◌∙◌, subst, inl, inr}
@@ -13,7 +13,7 @@ use Rattle.cm_pool.specs.FreeSpace.{IsUsedChunk}
 use Rattle.cm_pool.specs.Lists.{Pairwise, Among}
 use Rattle.cm_pool.proofs.{meets-turned, each-among, pairs-back, pairs-front, pairs-among}
 use Rattle.cm_pool.proofs.{among-left, among-right, among-append}
-use Rattle.cm_arena.specs.Chains.{Filled, chunks_of}
+use Rattle.cm_arena.specs.Chains.{Filled, chain_chunks}
 use Rattle.cm_space.specs.Space.{SpaceState, WaitingChunks, waiting_chunks}
 use Rattle.cm_space.specs.Ownership.{Owns, WaitsFor, owned_chunks, held_chunks}
 use Rattle.cm_space.specs.Laws.{OneOwner, OneNumber, OwnedOrWaiting, OwnedIsUsed, WaitingIsUsed}
@@ -36,30 +36,30 @@ one_of cs c d apart m n meets =
 
 -- an owner has a chain
 pub owner-had : (s : SpaceState) (k : ℕ) (c : Chunk) → Owns s k c → (chain : List Filled)
-    × (map.get s.arenas k ≡ Some chain) × Among c (chunks_of chain)
+    × (map.get s.arenas k ≡ Some chain) × Among c (chain_chunks chain)
 owner-had s k c own =
-    elim (map.get s.arenas k) as (λ o. Among c (chunks_of (unwrap_or o []))
-    → (chain : List Filled) × (o ≡ Some chain) × Among c (chunks_of chain)) [
+    elim (map.get s.arenas k) as (λ o. Among c (chain_chunks (unwrap_or o []))
+    → (chain : List Filled) × (o ≡ Some chain) × Among c (chain_chunks chain)) [
       | None ↦ λ none. absurd none
       | Some chain ↦ λ m. (chain, refl, m)
     ] own
 
 find-owned : (es : Entries) (j : ℕ) (chain : List Filled) (d : Chunk)
-    → find nat_cmp j es ≡ Some chain → Among d (chunks_of chain) → Among d (owned_chunks es)
+    → find nat_cmp j es ≡ Some chain → Among d (chain_chunks chain) → Among d (owned_chunks es)
 find-owned [] j chain d found m = absurd (cc)
 find-owned (e ∷ es) j chain d found m =
     by_test (is_eq (nat_cmp j e.0)) (find-owned es j chain d) found
   where
-    by_test : (t : Bool) → (find nat_cmp j es ≡ Some chain → Among d (chunks_of chain)
+    by_test : (t : Bool) → (find nat_cmp j es ≡ Some chain → Among d (chain_chunks chain)
         → Among d (owned_chunks es)) → cond t (Some e.1) (find nat_cmp j es) ≡ Some chain
-        → Among d (chunks_of e.1 ++ owned_chunks es)
+        → Among d (chain_chunks e.1 ++ owned_chunks es)
     by_test true rest f =
-        let same : e.1 ≡ chain = cc in among-left d (chunks_of e.1) (owned_chunks es) (subst
-        (λ (l : List Filled). Among d (chunks_of l)) (sym same) m)
-    by_test false rest f = among-right d (chunks_of e.1) (owned_chunks es) (rest f m)
+        let same : e.1 ≡ chain = cc in among-left d (chain_chunks e.1) (owned_chunks es) (subst
+        (λ (l : List Filled). Among d (chain_chunks l)) (sym same) m)
+    by_test false rest f = among-right d (chain_chunks e.1) (owned_chunks es) (rest f m)
 
 find-others : (k : ℕ) (es : Entries) (j : ℕ) (chain : List Filled) (d : Chunk)
-    → find nat_cmp j es ≡ Some chain → is_eq (nat_cmp k j) ≡ false → Among d (chunks_of chain)
+    → find nat_cmp j es ≡ Some chain → is_eq (nat_cmp k j) ≡ false → Among d (chain_chunks chain)
     → Among d (owned_chunks (others k es))
 find-others k [] j chain d found apart m = absurd (cc)
 find-others k (e ∷ es) j chain d found apart m =
@@ -67,11 +67,12 @@ find-others k (e ∷ es) j chain d found apart m =
   where
     by_key : (t : Bool) → Among d (owned_chunks (others k es))
         → Among d (owned_chunks (cond t (e ∷ others k es) (others k es)))
-    by_key true n = among-right d (chunks_of e.1) (owned_chunks (others k es)) n
+    by_key true n = among-right d (chain_chunks e.1) (owned_chunks (others k es)) n
     by_key false n = n
 
     by_test : (t : Bool) → is_eq (nat_cmp j e.0) ≡ t
-        → (find nat_cmp j es ≡ Some chain → is_eq (nat_cmp k j) ≡ false → Among d (chunks_of chain)
+        → (find nat_cmp j es ≡ Some chain → is_eq (nat_cmp k j) ≡ false
+        → Among d (chain_chunks chain)
         → Among d (owned_chunks (others k es)))
         → cond t (Some e.1) (find nat_cmp j es) ≡ Some chain
         → Among d (owned_chunks (cond (not (is_eq (nat_cmp k e.0))) (e ∷ others k es)
@@ -81,8 +82,8 @@ find-others k (e ∷ es) j chain d found apart m =
         let key : is_eq (nat_cmp k e.0) ≡ false =
         ap (λ q. is_eq (nat_cmp k q)) (sym (same_key j e.0 is)) ∙ apart in
         subst (λ b. Among d (owned_chunks (cond (not b) (e ∷ others k es) (others k es)))) (sym key)
-        (among-left d (chunks_of e.1) (owned_chunks (others k es))
-        (subst (λ (l : List Filled). Among d (chunks_of l)) (sym same) m))
+        (among-left d (chain_chunks e.1) (owned_chunks (others k es))
+        (subst (λ (l : List Filled). Among d (chain_chunks l)) (sym same) m))
     by_test false is rest f = by_key (not (is_eq (nat_cmp k e.0))) (rest f apart m)
 
 find-none : (x : ℕ) (es : Entries) → T (below_all nat_cmp x es) → find nat_cmp x es ≡ None
@@ -94,10 +95,11 @@ find-none x (e ∷ es) h =
 
 -- a chunk of the entries has an owner
 owned-find : (es : Entries) (c : Chunk) → T (is_sorted nat_cmp es) → Among c (owned_chunks es)
-    → (k : ℕ) × (chain : List Filled) × (find nat_cmp k es ≡ Some chain) × Among c (chunks_of chain)
+    → (k : ℕ) × (chain : List Filled) × (find nat_cmp k es ≡ Some chain)
+    × Among c (chain_chunks chain)
 owned-find [] c sorted m = absurd m
 owned-find (e ∷ es) c sorted m =
-    elim (among-append c (chunks_of e.1) (owned_chunks es) m) [
+    elim (among-append c (chain_chunks e.1) (owned_chunks es) m) [
       | inl mine ↦ (
         e.0,
         e.1,
@@ -124,7 +126,7 @@ owned-find (e ∷ es) c sorted m =
         absurd (cc)
     later k chain below found false is = found
 
--- a chunk that waits stands in the list of them
+-- a chunk that waits is in the list of waiting chunks
 pub waits-among : (ws : List WaitingChunks) (w : WaitingChunks) (c : Chunk) → Among w ws
     → Among c w.chunks
     → Among c (waiting_chunks ws)
@@ -186,28 +188,28 @@ one_owner s h k j c d mine his meets =
   where
     by_key : (t : Bool) → is_eq (nat_cmp k j) ≡ t
         → (had : (chain : List Filled) × (map.get s.arenas k ≡ Some chain)
-        × Among c (chunks_of chain))
+        × Among c (chain_chunks chain))
         → (got : (chain : List Filled) × (map.get s.arenas j ≡ Some chain)
-        × Among d (chunks_of chain))
-        → Pairwise Apart (chunks_of had.0 ++ (of_others s.arenas k ++ waiting_chunks s.waiting))
+        × Among d (chain_chunks chain))
+        → Pairwise Apart (chain_chunks had.0 ++ (of_others s.arenas k ++ waiting_chunks s.waiting))
         → (k ≡ j) × (c ≡ d)
     by_key true is had got apart =
         let key = same_key k j is in
         let same_chain : Some had.0 ≡ Some got.0 = sym had.1 ∙ ap (map.get s.arenas) key ∙ got.1 in
         let same : had.0 ≡ got.0 = cc in (
           key,
-          one_of (chunks_of had.0) c d
-              (pairs-front Apart (chunks_of had.0)
+          one_of (chain_chunks had.0) c d
+              (pairs-front Apart (chain_chunks had.0)
               (of_others s.arenas k ++ waiting_chunks s.waiting)
               apart) had.2
-              (subst (λ (l : List Filled). Among d (chunks_of l)) (sym same) got.2) meets,
+              (subst (λ (l : List Filled). Among d (chain_chunks l)) (sym same) got.2) meets,
         )
     by_key false is had got apart =
         let rest = of_others s.arenas k ++ waiting_chunks s.waiting in
         let behind = among-left d (of_others s.arenas k) (waiting_chunks s.waiting)
         (find-others k (map.entries s.arenas) j got.0 d (sym (map.get-entries s.arenas j) ∙ got.1)
         is got.2) in
-        absurd (pairs-across Apart (chunks_of had.0) rest c d apart had.2 behind meets)
+        absurd (pairs-across Apart (chain_chunks had.0) rest c d apart had.2 behind meets)
 
 pub one_number : OneNumber
 one_number s h n m c d mine his meets =
@@ -246,7 +248,7 @@ each_word s h root word present within =
                 inl (
                   found.0,
                   held.0,
-                  subst (λ o. Among held.0 (chunks_of (unwrap_or o []))) (sym is)
+                  subst (λ o. Among held.0 (chain_chunks (unwrap_or o []))) (sym is)
                       found.3,
                   held.2,
                 )

@@ -1,4 +1,4 @@
--- Pools with roots more, and chunks that are taken out of them.
+-- Pools with more roots, and chunks that are taken from them.
 -- For `add_roots`, `adopt_place`, `roots_reach_what_is_adopted`.
 use Rattle.std.proofs.Common.{◌≡◌, ℕ, zero, suc, ◌+◌, ◌-◌, ◌≤◌, ◌<◌, Bool, true, cond, List}
 use Rattle.std.proofs.Common.{refl, sym, ap, ◌∙◌, subst, inl, inr, arith}
@@ -66,11 +66,11 @@ reaching-free p c is from =
           (omega (arith, high, is.inside));
     }
 
--- where the root is present, none is added
+-- if the root is present, none is added
 pub reaching-present : (p : FreeSpace) (root : ℕ) → root < p.roots → reaching p root ≡ p
 reaching-present p root h = ap (with_roots p) (let e : suc root - p.roots ≡ 0 = omega arith in e)
 
--- one root more on the way, and its end
+-- one more root on the way, and its end
 pub way-more : (p q r : FreeSpace) (root : ℕ) (added : Bool) → IsOnTheWay p root q → q.roots ≤ root
     → root < p.geometry.roots → (q.roots < q.geometry.roots → added ≡ true)
     → r ≡ cond added (with_root q) q → IsOnTheWay p root r × (r.roots ≡ q.roots + 1)

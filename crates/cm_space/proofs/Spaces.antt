@@ -1,4 +1,4 @@
--- What is true of each space stays true with each change.
+-- The invariant of every space holds after each change.
 -- For `Space::add_loader`, `Space::adopt`, `Space::learn` and others.
 use Rattle.std.proofs.Common.{◌≡◌, ◌≢◌, ℕ, ◌≤◌, Bool, true, false, cond, List, [], ◌∷◌, ◌++◌}
 use Rattle.std.proofs.Common.{Option, Some, None, refl, sym, ap, ◌∙◌, IsSome, subst, append-nil}
@@ -15,7 +15,7 @@ use Rattle.cm_pool.specs.FreeSpace.{FreeSpace, IsUsedChunk}
 use Rattle.cm_pool.specs.Held.{AreHeld, NoneIsLost}
 use Rattle.cm_pool.specs.Lists.{Pairwise}
 use Rattle.cm_pool.proofs.{each-back, each-join, pairs-back}
-use Rattle.cm_arena.specs.Chains.{Filled, chunks_of}
+use Rattle.cm_arena.specs.Chains.{Filled, chain_chunks}
 use Rattle.cm_space.specs.Space.{SpaceState, WaitingChunks, IsKnown, arena_of, with_arena, left_by}
 use Rattle.cm_space.specs.Space.{left_by_all, waiting_chunks}
 use Rattle.cm_space.specs.Space.{learnt, empty_space, due, not_due}
@@ -26,20 +26,20 @@ use Rattle.cm_space.proofs.Arenas.{owned, of_others, insert-back, had-out, none-
 use Rattle.cm_space.proofs.Arenas.{remove-others, same_key}
 use Rattle.cm_space.proofs.Giving.{held-given, kept-given, due-parts, rises-not_due, chunks-append}
 
--- what others have beside one arena
+-- what others hold beside one arena
 abbrev pub beside : SpaceState → ℕ → List Chunk
 beside s k = of_others s.arenas k ++ waiting_chunks s.waiting
 
--- a change of one arena and of the pool under which what others hold stays theirs
+-- a change of one arena and of the pool that leaves what others hold
 pub record KeepsOthers (old : FreeSpace) (chain : List Filled) (new : FreeSpace)
     (next : List Filled) : Type 0 where
-  pub held : (rest : List Chunk) → AreHeld old (chunks_of chain ++ rest)
-      → AreHeld new (chunks_of next ++ rest)
-  pub kept : (rest : List Chunk) → AreHeld old (chunks_of chain ++ rest)
-      → NoneIsLost old (chunks_of chain ++ rest) → NoneIsLost new (chunks_of next ++ rest)
+  pub held : (rest : List Chunk) → AreHeld old (chain_chunks chain ++ rest)
+      → AreHeld new (chain_chunks next ++ rest)
+  pub kept : (rest : List Chunk) → AreHeld old (chain_chunks chain ++ rest)
+      → NoneIsLost old (chain_chunks chain ++ rest) → NoneIsLost new (chain_chunks next ++ rest)
 
 pub taken-apart : (s : SpaceState) (k : ℕ) (chain : List Filled) → map.get s.arenas k ≡ Some chain
-    → IsSpace s → AreHeld s.pool (chunks_of chain ++ beside s k)
+    → IsSpace s → AreHeld s.pool (chain_chunks chain ++ beside s k)
 taken-apart s k chain had h =
     (had-out s.arenas k chain (waiting_chunks s.waiting) had).held s.pool [] h.held
 
@@ -56,7 +56,7 @@ changed s k chain next p had h keeps =
       rises = h.rises;
     }
 
--- an arena more, with no chunk
+-- one more arena, with no chunk
 pub added : (s : SpaceState) (k : ℕ) → map.get s.arenas k ≡ None → IsSpace s
     → IsSpace (with_arena s k [])
 added s k none h =
@@ -71,12 +71,12 @@ added s k none h =
       rises = h.rises;
     }
 
--- an arena less, whose chunks wait
+-- one arena fewer, whose chunks wait
 pub left : (s : SpaceState) (n k : ℕ) → IsKnown s k
     → AllByRecursion (λ (w : WaitingChunks). w.number ≤ n) s.waiting → IsSpace s
     → IsSpace (left_by s n k)
 left s n k known last h =
-    let mine = chunks_of (arena_of s k) in
+    let mine = chain_chunks (arena_of s k) in
     let ws = waiting_chunks s.waiting in
     let w : WaitingChunks = record { number = n; chunks = mine } in
     let rest : owned (map.remove s.arenas k) ≡ of_others s.arenas k =
@@ -102,7 +102,7 @@ left s n k known last h =
         by_answer (Some chain) h = refl
         by_answer None h = absurd (cc)
 
--- the others have their arenas still
+-- the others still have their arenas
 pub known-behind : (s : SpaceState) (n u : ℕ) (us : List ℕ) → AllByRecursion (λ v. u ≢ v) us
     → AllByRecursion (IsKnown s) us → AllByRecursion (IsKnown (left_by s n u)) us
 known-behind s n u [] differ known = tt
@@ -120,7 +120,7 @@ known-behind s n u (v ∷ us) differ known = (
         by_test true e = absurd (other (sym (same_key v u e)))
         by_test false e = refl
 
--- several arenas less, one after another
+-- several arenas fewer, one after another
 pub left-all : (s : SpaceState) (n : ℕ) (us : List ℕ) → AllByRecursion (IsKnown s) us
     → Pairwise (λ u v. u ≢ v) us → AllByRecursion (λ (w : WaitingChunks). w.number ≤ n) s.waiting
     → IsSpace s → IsSpace (left_by_all s n us)
@@ -130,20 +130,20 @@ left-all s n (u ∷ us) known differ last h =
     (each-join (λ (w : WaitingChunks). w.number ≤ n) s.waiting _ last (omega arith, tt))
     (left s n u known.0 last h)
 
--- an arena and the pool changed, and a chunk that was left waits behind the others
+-- an arena and the pool changed, and the old chunk waits after the others
 pub tightened : (s : SpaceState) (k : ℕ) (chain next : List Filled) (p : FreeSpace) (from : Chunk)
     (n : ℕ) → map.get s.arenas k ≡ Some chain
     → AllByRecursion (λ (w : WaitingChunks). w.number ≤ n) s.waiting → IsSpace s
-    → ((rest : List Chunk) → AreHeld s.pool (chunks_of chain ++ rest)
-    → AreHeld p (chunks_of next ++ from ∷ rest))
-    → ((rest : List Chunk) → NoneIsLost s.pool (chunks_of chain ++ rest)
-    → NoneIsLost p (chunks_of next ++ from ∷ rest))
+    → ((rest : List Chunk) → AreHeld s.pool (chain_chunks chain ++ rest)
+    → AreHeld p (chain_chunks next ++ from ∷ rest))
+    → ((rest : List Chunk) → NoneIsLost s.pool (chain_chunks chain ++ rest)
+    → NoneIsLost p (chain_chunks next ++ from ∷ rest))
     → IsSpace (record (with_arena s k next) {
       pool = p;
       waiting = s.waiting ++ record { number = n; chunks = from ∷ [] } ∷ [];
     })
 tightened s k chain next p from n had last h held kept =
-    let mine = chunks_of next in
+    let mine = chain_chunks next in
     let theirs = of_others s.arenas k in
     let ws = waiting_chunks s.waiting in
     let w : WaitingChunks = record { number = n; chunks = from ∷ [] } in
@@ -162,7 +162,7 @@ tightened s k chain next p from n had last h held kept =
       rises = pairs-push (λ (v w : WaitingChunks). v.number ≤ w.number) s.waiting w h.rises last;
     }
 
--- what is due is free
+-- the chunks that are due are freed
 pub learned : (s : SpaceState) (n : ℕ) → IsSpace s → IsSpace (learnt s n)
 learned s n h =
     let front = owned s.arenas in
@@ -180,7 +180,7 @@ learned s n h =
       rises = rises-not_due n s.waiting h.rises;
     }
 
--- nothing is held where there are no roots
+-- nothing is held if there are no roots
 pub none : (sizes : Sizes) → IsSpace (empty_space sizes)
 none sizes =
     let entries : map.entries (empty_space sizes).arenas ≡ [] =
@@ -198,7 +198,7 @@ none sizes =
     no_entries [] e = refl
     no_entries (x ∷ es) e = absurd (omega arith)
 
--- what waits is held by itself
+-- the waiting chunks are held by themselves
 pub waiting-held : (s : SpaceState) → IsSpace s → AreHeld s.pool (waiting_chunks s.waiting)
 waiting-held s h = record {
   each = each-back (IsUsedChunk s.pool) (owned s.arenas) (waiting_chunks s.waiting) h.held.each;

@@ -1,4 +1,4 @@
--- What the calls of the map of arenas make of a space.
+-- How the calls of the map of arenas change a space.
 -- For `Space::add_loader`, `Space::adopt`, `Space::chunks` and others.
 use Rattle.std.proofs.Common.{◌≡◌, ℕ, List, [], ◌∷◌, ◌++◌, Option, Some, None, refl, sym, ap, ◌∙◌}
 use Rattle.std.proofs.Common.{subst, IsSome}
@@ -8,11 +8,11 @@ use Rattle.std.specs.Map.{lookup}
 use Rattle.std.proofs.lemmas.List.{map-append}
 use Rattle.std.specs.FinMap as map
 use Rattle.cm_pool.specs.FreeSpace.{FreeSpace}
-use Rattle.cm_arena.specs.Chains.{Filled, chunks_of}
+use Rattle.cm_arena.specs.Chains.{Filled, chain_chunks}
 use Rattle.cm_space.specs.declared.waiting.Waiting.{Waiting}
 use Rattle.cm_space.specs.Space.{SpaceState, WaitingChunks, IsKnown, arena_of, with_arena}
 use Rattle.cm_space.specs.Space.{without_arena}
-use Rattle.cm_space.specs.Space.{state_of, waits_of, waits_in, AreLeft}
+use Rattle.cm_space.specs.Space.{space_state, waits_of, waits_in, AreLeft}
 use Rattle.cm_space.specs.Ownership.{IsSpace}
 use Rattle.cm_space.proofs.Arenas.{Entries, Arenas, Sets, get-lookup, entries-insert}
 use Rattle.cm_space.proofs.Arenas.{entries-remove, get-inserted, insert-had}
@@ -23,7 +23,7 @@ abbrev pub found : Entries → ℕ → Option (List Filled)
 found es k = lookup (λ j. is_eq (nat_cmp k j)) es
 
 pub view-get : (p : FreeSpace) (es : Entries) (ws : List Waiting) (s : SpaceState) (k : ℕ)
-    → state_of p es ws ≡ s → found es k ≡ map.get s.arenas k
+    → space_state p es ws ≡ s → found es k ≡ map.get s.arenas k
 view-get p es ws s k view = sym (get-lookup es k) ∙ ap (λ (t : SpaceState). map.get t.arenas k) view
 
 pub is_some-map : {X Y : Type 0} (f : X → Y) (o : Option X) (r : Option Y) → option_map f o ≡ r
@@ -31,7 +31,7 @@ pub is_some-map : {X Y : Type 0} (f : X → Y) (o : Option X) (r : Option Y) →
 is_some-map f None r e h = subst (λ o. IsSome o) (sym e) h
 is_some-map f (Some x) r e h = refl
 
--- the arena of a loader was lent, and is another chain now
+-- the arena of a loader was borrowed, and is another chain now
 pub record IsLent (s : SpaceState) (k : ℕ) (chain next : List Filled) (ws : List Waiting)
     (new : Entries) : Type 0 where
   pub had : map.get s.arenas k ≡ Some chain
@@ -40,7 +40,7 @@ pub record IsLent (s : SpaceState) (k : ℕ) (chain next : List Filled) (ws : Li
 
 pub is_lent : (p : FreeSpace) (es new : Entries) (ws : List Waiting) (s : SpaceState) (k : ℕ)
     (chain next : List Filled)
-    → state_of p es ws ≡ s → found es k ≡ Some chain → Sets es new k (Some next)
+    → space_state p es ws ≡ s → found es k ≡ Some chain → Sets es new k (Some next)
     → IsLent s k chain next ws new
 is_lent p es new ws s k chain next view get sets = record {
   had = sym (view-get p es ws s k view) ∙ get;
@@ -57,13 +57,13 @@ lent-before {s} {k} {chain} {next} {ws} {new} h = ap (λ o. unwrap_or o []) h.ha
 pub lent-view : {s : SpaceState} {k : ℕ} {chain next : List Filled} {ws : List Waiting}
     {new : Entries} (q : FreeSpace)
     → IsLent s k chain next ws new
-    → state_of q new ws ≡ record (with_arena s k next) { pool = q }
+    → space_state q new ws ≡ record (with_arena s k next) { pool = q }
 lent-view {s} {k} {chain} {next} {ws} {new} q h =
     λ i. record { pool = q; arenas = h.arenas i; waiting = h.waiting i }
 
 pub lent-after : {s : SpaceState} {k : ℕ} {chain next : List Filled} {ws : List Waiting}
     {new : Entries} (q : FreeSpace)
-    → IsLent s k chain next ws new → arena_of (state_of q new ws) k ≡ next
+    → IsLent s k chain next ws new → arena_of (space_state q new ws) k ≡ next
 lent-after {s} {k} {chain} {next} {ws} {new} q h =
     ap (λ m. unwrap_or (map.get m k) []) h.arenas ∙ ap
     (λ o. unwrap_or o []) (get-inserted s.arenas k next)
@@ -71,21 +71,22 @@ lent-after {s} {k} {chain} {next} {ws} {new} q h =
 pub lent-others : {s : SpaceState} {k : ℕ} {chain next : List Filled} {ws : List Waiting}
     {new : Entries} (q : FreeSpace)
     → IsLent s k chain next ws new
-    → state_of q new ws ≡ record (with_arena s k (arena_of (state_of q new ws) k)) { pool = q }
+    → space_state q new ws
+    ≡ record (with_arena s k (arena_of (space_state q new ws) k)) { pool = q }
 lent-others {s} {k} {chain} {next} {ws} {new} q h = lent-view q h ∙ ap
     (λ (c : List Filled). record (with_arena s k c) { pool = q }) (sym (lent-after q h))
 
 pub lent-space : {s : SpaceState} {k : ℕ} {chain next : List Filled} {ws : List Waiting}
     {new : Entries} (q : FreeSpace)
     → IsLent s k chain next ws new → IsSpace s → KeepsOthers s.pool chain q next
-    → IsSpace (state_of q new ws)
+    → IsSpace (space_state q new ws)
 lent-space {s} {k} {chain} {next} {ws} {new} q h space keeps =
     subst IsSpace (sym (lent-view q h)) (changed s k chain next q h.had space keeps)
 
 -- the chain is the one that it was
 pub lent-kept : {s : SpaceState} {k : ℕ} {chain next : List Filled} {ws : List Waiting}
     {new : Entries} (q : FreeSpace)
-    → IsLent s k chain next ws new → next ≡ chain → state_of q new ws ≡ record s { pool = q }
+    → IsLent s k chain next ws new → next ≡ chain → space_state q new ws ≡ record s { pool = q }
 lent-kept {s} {k} {chain} {next} {ws} {new} q h same =
     lent-view q h
     ∙ ap (λ (m : Arenas). record s { pool = q; arenas = m }) (ap (map.insert s.arenas k) same
@@ -93,11 +94,11 @@ lent-kept {s} {k} {chain} {next} {ws} {new} q h same =
 
 pub lent-same : {s : SpaceState} {k : ℕ} {chain next : List Filled} {ws : List Waiting}
     {new : Entries} (q : FreeSpace)
-    → IsLent s k chain next ws new → next ≡ chain → q ≡ s.pool → state_of q new ws ≡ s
+    → IsLent s k chain next ws new → next ≡ chain → q ≡ s.pool → space_state q new ws ≡ s
 lent-same {s} {k} {chain} {next} {ws} {new} q h same pool = lent-kept q h same ∙ ap
     (λ (p : FreeSpace). record s { pool = p }) pool
 
--- ---- an arena more, and one less
+-- ---- one more arena, and one fewer
 
 pub not_known : (s : SpaceState) (k : ℕ) → ¬ IsKnown s k → map.get s.arenas k ≡ None
 not_known s k h =
@@ -108,32 +109,33 @@ not_known s k h =
 
 pub more : (p : FreeSpace) (es new : Entries) (ws : List Waiting) (s : SpaceState) (k : ℕ)
     (chain : List Filled)
-    → state_of p es ws ≡ s → Sets es new k (Some chain) → state_of p new ws ≡ with_arena s k chain
+    → space_state p es ws ≡ s → Sets es new k (Some chain) → space_state p new ws
+    ≡ with_arena s k chain
 more p es new ws s k chain view sets =
     let arenas = entries-insert es new k chain sets in
     (λ i. record { pool = p; arenas = arenas i; waiting = waits_in ws })
     ∙ ap (λ (t : SpaceState). with_arena t k chain) view
 
 pub one_less : (p : FreeSpace) (es new : Entries) (ws : List Waiting) (s : SpaceState) (k : ℕ)
-    → state_of p es ws ≡ s → Sets es new k None → state_of p new ws ≡ without_arena s k
+    → space_state p es ws ≡ s → Sets es new k None → space_state p new ws ≡ without_arena s k
 one_less p es new ws s k view sets =
     let arenas = entries-remove es new k sets in
     (λ i. record { pool = p; arenas = arenas i; waiting = waits_in ws })
     ∙ ap (λ (t : SpaceState). without_arena t k) view
 
--- whatever the pool
+-- the same whatever the pool
 pub one_left : (es new : Entries) (ws vs : List Waiting) (k n : ℕ) (chain : List Filled)
     (w : Waiting)
     → found es k ≡ Some chain → Sets es new k None → vs ≡ ws ++ w ∷ []
-    → waits_of w ≡ record { number = n; chunks = chunks_of chain }
+    → waits_of w ≡ record { number = n; chunks = chain_chunks chain }
     → AreLeft es ws n (k ∷ []) new vs
 one_left es new ws vs k n chain w had sets pushed is p =
-    let s = state_of p es ws in
+    let s = space_state p es ws in
     let mine : chain ≡ arena_of s k = sym (ap (λ o. unwrap_or o []) (get-lookup es k ∙ had)) in
-    let waits : WaitingChunks = record { number = n; chunks = chunks_of (arena_of s k) } in
+    let waits : WaitingChunks = record { number = n; chunks = chain_chunks (arena_of s k) } in
     let waiting : waits_in vs ≡ waits_in ws ++ waits ∷ [] =
     ap waits_in pushed ∙ map-append waits_of ws (w ∷ [])
     ∙ ap (λ (v : WaitingChunks). waits_in ws ++ v ∷ [])
-    (is ∙ ap (λ (c : List Filled). record { number = n; chunks = chunks_of c }) mine) in
+    (is ∙ ap (λ (c : List Filled). record { number = n; chunks = chain_chunks c }) mine) in
     let rest = one_less p es new ws s k refl sets in
     λ i. record { pool = (rest i).pool; arenas = (rest i).arenas; waiting = waiting i }

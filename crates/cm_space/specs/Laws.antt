@@ -1,4 +1,4 @@
--- What holds of each space, in words of loaders, numbers and words.
+-- Laws that hold for every space, in terms of loaders, numbers and words.
 use Rattle.std.specs.Prelude.{◌≡◌, ℕ, ◌<◌, ◌≤◌, ◌+◌, ◌⊎◌, ◌↔◌, max}
 use Rattle.cm_pool.specs.declared.chunk.Chunk.{Chunk}
 use Rattle.cm_pool.specs.Chunks.{chunk_size, Covers, Meets}
@@ -7,13 +7,13 @@ use Rattle.cm_space.specs.Space.{SpaceState, learnt}
 use Rattle.cm_space.specs.Adopting.{reaching}
 use Rattle.cm_space.specs.Ownership.{IsSpace, Owns, WaitsFor}
 
--- Two chunks of arenas that share a word are one chunk of one loader.
+-- Two chunks of arenas that share a word are the same chunk of the same loader.
 abbrev pub OneOwner : Type 0
 OneOwner =
     (s : SpaceState) → IsSpace s → (loader other : ℕ) (c d : Chunk) → Owns s loader c
     → Owns s other d → Meets c d → (loader ≡ other) × (c ≡ d)
 
--- Two chunks that wait and share a word are one chunk that waits for one number.
+-- Two waiting chunks that share a word are the same chunk, waiting for the same number.
 abbrev pub OneNumber : Type 0
 OneNumber =
     (s : SpaceState) → IsSpace s → (number other : ℕ) (c d : Chunk) → WaitsFor s number c
@@ -34,8 +34,8 @@ abbrev pub WaitingIsUsed : Type 0
 WaitingIsUsed = (s : SpaceState) → IsSpace s → (number : ℕ) (c : Chunk) → WaitsFor s number c
     → IsUsedChunk s.pool c
 
--- Each word of a present root is free, or one of a chunk that a loader owns, or one of a chunk that
--- waits for a number.
+-- Each word of a present root is free, or in a chunk that a loader owns, or in a chunk that waits
+-- for a number.
 abbrev pub EachWord : Type 0
 EachWord =
     (s : SpaceState) → IsSpace s → (root word : ℕ) → root < s.pool.roots
@@ -44,8 +44,8 @@ EachWord =
     ⊎ (((loader : ℕ) × (c : Chunk) × Owns s loader c × Covers c root word)
     ⊎ ((number : ℕ) × (c : Chunk) × WaitsFor s number c × Covers c root word))
 
--- Once a number is learnt, the words are free that were, and those of the chunks that wait for at
--- most this number; no others are.
+-- Once a number is learnt, the free words are those that were free before, and those of the chunks
+-- that wait for at most this number.
 abbrev pub LearningFreesDue : Type 0
 LearningFreesDue =
     (s : SpaceState) → IsSpace s → (learnt_now root word : ℕ)
@@ -54,7 +54,7 @@ LearningFreesDue =
     ⊎ ((number : ℕ) × (c : Chunk) × (number ≤ learnt_now) × WaitsFor s number c
     × Covers c root word))
 
--- Where roots are added until one is present, there are as many as before, or one more than its
+-- If roots are added until one is present, there are then as many as before, or one more than its
 -- number.
 abbrev pub RootsReach : Type 0
 RootsReach = (p : FreeSpace) (root : ℕ) → (reaching p root).roots ≡ max p.roots (root + 1)

@@ -1,15 +1,15 @@
--- Who has which word: what is true of each space.
+-- Who holds which word: the invariant of every space.
 use Rattle.std.specs.Prelude.{◌≡◌, ◌≤◌, ℕ, List, [], ◌∷◌, ◌++◌}
 use Rattle.std.specs.FinMap as map
 use Rattle.cm_pool.specs.declared.chunk.Chunk.{Chunk}
 use Rattle.cm_pool.specs.Lists.{Pairwise, Among}
 use Rattle.cm_pool.specs.Held.{AreHeld, NoneIsLost}
-use Rattle.cm_arena.specs.Chains.{Filled, chunks_of}
+use Rattle.cm_arena.specs.Chains.{Filled, chain_chunks}
 use Rattle.cm_space.specs.Space.{SpaceState, WaitingChunks, arena_of, waiting_chunks}
 
--- the chunk is one of the loader's arena
+-- the chunk is in the loader's arena
 abbrev pub Owns : SpaceState → ℕ → Chunk → Type 0
-Owns s loader c = Among c (chunks_of (arena_of s loader))
+Owns s loader c = Among c (chain_chunks (arena_of s loader))
 
 -- the chunk waits for the number
 abbrev pub WaitsFor : SpaceState → ℕ → Chunk → Type 0
@@ -19,13 +19,13 @@ WaitsFor s number c =
 -- the chunks of some arenas, and all chunks of a space that are owned or wait
 abbrev pub owned_chunks : List (ℕ × List Filled) → List Chunk
 owned_chunks [] = []
-owned_chunks (e ∷ es) = chunks_of e.1 ++ owned_chunks es
+owned_chunks (e ∷ es) = chain_chunks e.1 ++ owned_chunks es
 
 abbrev pub held_chunks : SpaceState → List Chunk
 held_chunks s = owned_chunks (map.entries s.arenas) ++ waiting_chunks s.waiting
 
--- Each word of a present root is free, or of one chunk that is owned or waits, and of one of these
--- only; and what was left later waits for no smaller number.
+-- Each word of a present root is free, or in one chunk that is owned or waits, and in only one of
+-- these; and chunks that were left later wait for no smaller number.
 pub record IsSpace (s : SpaceState) : Type 0 where
   pub held : AreHeld s.pool (held_chunks s)
   pub none_lost : NoneIsLost s.pool (held_chunks s)

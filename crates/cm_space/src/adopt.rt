@@ -1,11 +1,11 @@
-// How an arena takes over a place that was found again.
+// How an arena adopts a place that was found in a file.
 ghost use Rattle.std.specs.Prelude.{◌≡◌, ◌<◌, ◌≤◌, ◌↔◌, ◌++◌, List, IsTrue, IfOk, OnOk, OnErr};
 ghost use Rattle.std.specs.Prelude.{MatchResult, if◌then◌else◌};
 ghost use Rattle.cm_pool.specs.declared.chunk.Chunk.{Chunk};
 ghost use Rattle.cm_pool.specs.FreeSpace.{IsFreeChunk, without};
 ghost use Rattle.cm_pool.specs.Held.{AreHeld};
 ghost use Rattle.cm_pool.specs.Places.{IsInside};
-ghost use Rattle.cm_arena.specs.Chains.{chunks_of};
+ghost use Rattle.cm_arena.specs.Chains.{chain_chunks};
 ghost use Rattle.cm_arena.specs.Placing.{with_place};
 ghost use Rattle.cm_space.specs.Adopting.{reaching, pool_after, IsOnTheWay, IsAdoptable};
 
@@ -13,9 +13,9 @@ use cm_arena::Arena;
 use cm_pool::{Place, Pool};
 use std::alloc::AllocError;
 
-/// Takes over a place, with its chunk where it is at the front of one.
+/// Adopts a place, and takes its chunk if the place is at the front of one.
 pub fn adopt_place(arena: &mut Arena, pool: &mut Pool, place: Place) -> Result<bool, AllocError>
-    requires { (others : List Chunk) × AreHeld pool.old (chunks_of arena.old ++ others) }
+    requires { (others : List Chunk) × AreHeld pool.old (chain_chunks arena.old ++ others) }
     ensures next { IfOk result (λ taken. IsTrue taken ↔ IsAdoptable arena.old pool.old place) }
     ensures arena { MatchResult result
         (λ taken. arena.new ≡ (if taken then with_place arena.old place else arena.old))
@@ -48,9 +48,9 @@ fn add_roots(pool: &mut Pool, root: u32) -> Result<(), AllocError>
     Ok(())
 }
 
-// Takes over a place at the front of a chunk, if that is free.
+// Adopts a place at the front of a chunk, if that chunk is free.
 fn adopt_front(arena: &mut Arena, pool: &mut Pool, place: Place) -> Result<bool, AllocError>
-    requires held { (others : List Chunk) × AreHeld pool.old (chunks_of arena.old ++ others) }
+    requires held { (others : List Chunk) × AreHeld pool.old (chain_chunks arena.old ++ others) }
     requires inside { IsInside place }
     requires front { place.offset ≡ 0 }
     ensures free { IfOk result (λ taken. IsTrue taken ↔ IsFreeChunk pool.old place.chunk) }

@@ -1,9 +1,9 @@
-// What holds of each space.
+// Laws that hold for every space.
 ghost use Rattle.cm_space.specs.Laws.{OneOwner, OneNumber, OwnedOrWaiting, OwnedIsUsed};
 ghost use Rattle.cm_space.specs.Laws.{WaitingIsUsed, EachWord, LearningFreesDue, RootsReach};
 
-/// A chunk has one owner or waits for one number: no two chunks of a space, whether they are owned
-/// or wait, share a word.
+/// Each chunk has one owner or waits for one number: no two chunks of a space, owned or waiting,
+/// share a word.
 pub fn chunks_are_apart()
     ensures owned { OneOwner }
     ensures waiting { OneNumber }
@@ -21,13 +21,12 @@ pub fn each_word_has_its_place()
     ensures { EachWord }
 {}
 
-/// Learning a number makes the words free of the chunks that wait for at most this number, and no
-/// others.
+/// Learning a number frees exactly the words of the chunks that wait for at most this number.
 pub fn learning_frees_what_is_due()
     ensures { LearningFreesDue }
 {}
 
-/// Adopted places make as many roots present as the greatest root among them takes.
+/// Adopted places make as many roots present as the greatest root among them requires.
 pub fn roots_reach_what_is_adopted()
     ensures { RootsReach }
 {}

@@ -1,4 +1,4 @@
-// How loaders' arenas go, in room that is there for their chunks to wait.
+// Removing loaders' arenas, when there is room for their chunks to wait.
 ghost use Rattle.std.specs.Prelude.{◌≡◌, ◌≢◌, ◌≤◌, ◌<◌, ◌+◌, [], ◌∷◌, length};
 ghost use Rattle.std.specs.List.{AllByRecursion};
 ghost use Rattle.std.specs.VecDeque.{deque_len, deque_capacity};
@@ -9,8 +9,8 @@ use crate::waiting::Waiting;
 use cm_arena::Arena;
 use std::collections::{BTreeMap, VecDeque};
 
-/// Takes a loader's arena away: its chunks wait for the number, behind what waits already, in room
-/// that is there for them.
+/// Removes a loader's arena: its chunks wait for the number, after those that wait already. There
+/// is room for them.
 pub fn leave_one(
     arenas: &mut BTreeMap<u64, Arena>,
     waiting: &mut VecDeque<Waiting>,
@@ -29,7 +29,7 @@ pub fn leave_one(
     waiting.push_back_reserved(Waiting { number, chunks });
 }
 
-/// Takes the arenas of several loaders away, one after another.
+/// Removes the arenas of several loaders, one after another.
 pub fn leave_each(
     arenas: &mut BTreeMap<u64, Arena>,
     waiting: &mut VecDeque<Waiting>,

@@ -15,11 +15,11 @@ use std::collections::{BTreeMap, VecDeque};
 use std::marker::Model;
 
 /// The roots of a region: which words are free, which chunks each loader owns, and which chunks
-/// wait until the command that left them is known to be stored.
+/// wait until the command that left them is known to be durable.
 ///
 /// Contracts see a space as its pool, the loaders' chains by number, and the chunks that wait,
-/// oldest first. Each word of a present root is free, or of one chunk that is owned or waits, and
-/// of one of these only ([`chunks_are_apart`](crate::chunks_are_apart)).
+/// oldest first. Each word of a present root is free, or in one chunk that is owned or waits, and
+/// in only one of these ([`chunks_are_apart`](crate::chunks_are_apart)).
 #[derive(Drop)]
 pub struct Space {
     alloc: Global,
@@ -29,20 +29,20 @@ pub struct Space {
 }
 
 impl Model for Space {
-    ghost use Rattle.cm_space.specs.Space.{SpaceState, state_of, state_code};
+    ghost use Rattle.cm_space.specs.Space.{SpaceState, space_state, state_code};
     ghost use Rattle.cm_space.specs.Ownership.{IsSpace};
 
     ghost Value = { SpaceState };
 
     ghost coded = { state_code };
 
-    ghost view = { λ s. state_of s.pool s.arenas.entries s.waiting.items };
+    ghost view = { λ s. space_state s.pool s.arenas.entries s.waiting.items };
 
-    ghost invariant = { λ s. IsSpace (state_of s.pool s.arenas.entries s.waiting.items) };
+    ghost invariant = { λ s. IsSpace (space_state s.pool s.arenas.entries s.waiting.items) };
 }
 
 impl Space {
-    ghost use Rattle.cm_arena.specs.Chains.{chunks_of, used_of};
+    ghost use Rattle.cm_arena.specs.Chains.{chain_chunks, used_of};
     ghost use Rattle.cm_pool.specs.Lists.{Pairwise};
     ghost use Rattle.cm_arena.specs.Placing.{Places, IsFull, HasRoom};
     ghost use Rattle.cm_pool.specs.FreeSpace.{IsFreeSpace};
@@ -77,7 +77,7 @@ impl Space {
         self.pool.geometry()
     }
 
-    /// Does nothing: its clauses say what every space keeps.
+    /// Does nothing: its clauses state the invariant of every space.
     pub fn invariant_holds(&self)
         ensures arenas { IsSpace self.now }
         ensures pool { IsFreeSpace self.now.pool }
@@ -99,10 +99,10 @@ impl Space {
         self.arenas.contains_key(&loader)
     }
 
-    /// The chunks of a loader's arena, in order. `None` where it has no arena.
+    /// The chunks of a loader's arena, in order. `None` if it has no arena.
     pub fn chunks(&self, loader: u64) -> Option<&[Chunk]>
         ensures { option_map (λ chunks. chunks.now) result
-            ≡ option_map chunks_of (map.get self.now.arenas loader) }
+            ≡ option_map chain_chunks (map.get self.now.arenas loader) }
     {
         match self.arenas.get(&loader) {
             Some(arena) => Some(arena.chunks()),
@@ -110,7 +110,7 @@ impl Space {
         }
     }
 
-    /// How many words at the front of a chunk are used, if the chunk is one of the loader's arena.
+    /// How many words at the front of a chunk are used, if the loader's arena has the chunk.
     pub fn used_words(&self, loader: u64, chunk: &Chunk) -> Option<u32>
         ensures { result ≡ used_of (arena_of self.now loader) chunk.now }
     {
@@ -127,14 +127,14 @@ impl Space {
         Ok(())
     }
 
-    /// Finds a place for the words of a record in a loader's arena, as [`Arena::place`] does: on
-    /// the top of its last chunk, or else at the front of a new one. The other arenas and what
-    /// waits stay as they were.
+    /// Finds a place for the words of a record in a loader's arena, as [`Arena::place`] does: after
+    /// the used words of its last chunk, or else at the front of a new one. The other arenas and
+    /// the waiting chunks are unchanged.
     ///
-    /// The refusal is `RecordTooLong` where a root chunk doesn't hold the words, and else
-    /// `RegionFull` where the last chunk has no room, no chunk of the order needed is free, and all
-    /// roots are present. `NoMemory` comes only where neither does and the last chunk has no room.
-    /// A refusal changes nothing.
+    /// Fails with `RecordTooLong` if a root chunk doesn't hold the words; else with `RegionFull` if
+    /// the last chunk has no room, no chunk of the order needed is free, and all roots are present.
+    /// `NoMemory` is returned only if neither applies and the last chunk has no room. An error
+    /// changes nothing.
     pub fn place(&mut self, loader: u64, words: u32) -> Result<Place, PlaceRefusal>
         requires known { IsKnown self.old loader }
         requires some { 1 ≤ words }
@@ -158,8 +158,8 @@ impl Space {
         arena.place(words, &mut self.pool)
     }
 
-    /// Whether [`place`](Space::place) refuses so many words in a loader's arena with `RegionFull`.
-    /// Takes no memory, and leaves the space as it was.
+    /// Whether [`place`](Space::place) fails with `RegionFull` for `words` words in a loader's
+    /// arena. Doesn't allocate, and leaves the space unchanged.
     pub fn is_full(&mut self, loader: u64, words: u32) -> bool
         requires known { IsKnown self.old loader }
         requires some { 1 ≤ words }
@@ -170,13 +170,13 @@ impl Space {
         arena.is_full(words, &mut self.pool)
     }
 
-    /// Takes over the place of a record that was found again. It has to be the next one of the
-    /// loader's arena: on the top of its last chunk, or at the front of a chunk of the region that
-    /// is free. Roots are added until that chunk's root is present, and the chunk is taken. False,
-    /// and nothing is changed, where the place isn't the next one or the chunk isn't free.
+    /// Adopts the place of a record that was found in a file. It has to be the next one of the
+    /// loader's arena: after the used words of its last chunk, or at the front of a free chunk of
+    /// the region. Roots are added until that chunk's root is present, and the chunk is taken.
+    /// Returns false, and changes nothing, if the place isn't the next one or the chunk isn't free.
     ///
-    /// An `Err` leaves the arenas and what waits as they were; of the roots that the place needs,
-    /// some may have been added.
+    /// An `Err` leaves the arenas and the waiting chunks unchanged; some of the roots that the
+    /// place needs may have been added.
     pub fn adopt(&mut self, loader: u64, place: Place) -> Result<bool, AllocError>
         requires { IsKnown self.old loader }
         ensures next { IfOk result (λ taken. IsTrue taken
@@ -190,9 +190,9 @@ impl Space {
         adopt_place(self.arenas.get_mut(&loader).unwrap(), &mut self.pool, place)
     }
 
-    /// Takes a loader's arena away. Its chunks, and no others, wait for the number from then on,
-    /// behind those that wait already; an arena with no chunks leaves an entry with none. An `Err`
-    /// changes nothing.
+    /// Removes a loader's arena. Its chunks, and no others, wait for the number from then on, after
+    /// those that wait already; an arena with no chunks leaves an entry with none. An `Err` changes
+    /// nothing.
     pub fn leave(&mut self, loader: u64, number: u64) -> Result<(), AllocError>
         requires known { IsKnown self.old loader }
         requires last { AllByRecursion (λ (w : WaitingChunks). w.number ≤ number) self.old.waiting }
@@ -204,9 +204,9 @@ impl Space {
         Ok(())
     }
 
-    /// Takes the arenas of several loaders away, one after another, as [`leave`](Space::leave)
-    /// takes one: their chunks wait for the number, in the order of the loaders. Either all go or
-    /// none, since all memory is taken first. An `Err` changes nothing.
+    /// Removes the arenas of several loaders, one after another, as [`leave`](Space::leave) removes
+    /// one: their chunks wait for the number, in the order of the loaders. Either all are removed
+    /// or none, since all memory is allocated first. An `Err` changes nothing.
     pub fn leave_all(&mut self, loaders: &[u64], number: u64) -> Result<(), AllocError>
         requires known { AllByRecursion (IsKnown self.old) loaders.now }
         requires differ { Pairwise (λ u v. u ≢ v) loaders.now }
@@ -219,8 +219,8 @@ impl Space {
         Ok(())
     }
 
-    /// Whether [`tighten`](Space::tighten) gives nothing for a loader. Takes no memory, and leaves
-    /// the space as it was.
+    /// Whether [`tighten`](Space::tighten) returns `None` for a loader. Doesn't allocate, and
+    /// leaves the space unchanged.
     pub fn is_tight(&mut self, loader: u64) -> bool
         requires { IsKnown self.old loader }
         ensures tight { IsTrue result ↔ IsTight (arena_of self.old loader) self.old.pool }
@@ -230,10 +230,10 @@ impl Space {
         arena.is_tight(&mut self.pool)
     }
 
-    /// Moves the used words of a loader's last chunk, as [`Arena::tighten`] does. The chunk left,
-    /// and no other, waits for the number from then on, behind those that wait already. `None`, and
-    /// nothing is changed, where the words have nowhere to move. An `Err` changes nothing, and
-    /// comes only where they have.
+    /// Moves the used words of a loader's last chunk, as [`Arena::tighten`] does. The old chunk,
+    /// and no other, waits for the number from then on, after those that wait already. Returns
+    /// `None`, and changes nothing, if the words have nowhere to move. An `Err` changes nothing,
+    /// and is returned only if the words have somewhere to move.
     pub fn tighten(&mut self, loader: u64, number: u64) -> Result<Option<Moved>, AllocError>
         requires known { IsKnown self.old loader }
         requires last { AllByRecursion (λ (w : WaitingChunks). w.number ≤ number) self.old.waiting }
@@ -256,7 +256,7 @@ impl Space {
         Ok(Some(moved))
     }
 
-    /// Makes the chunks free that wait for at most this number. The others wait on.
+    /// Frees the chunks that wait for at most this number. The others keep waiting.
     pub fn learn(&mut self, number: u64)
         ensures { self.new ≡ learnt self.old number }
     {

@@ -18,8 +18,8 @@ pub struct Waiting {
     pub chunks: Vec<Chunk>,
 }
 
-/// Room for one chunk, and for it to wait behind what waits already. `None` where an allocation
-/// failed.
+/// Makes room for one chunk, and for it to wait after those that wait already. `None` if an
+/// allocation failed.
 pub fn reserve_left(alloc: Global, waiting: &mut VecDeque<Waiting>) -> Option<Vec<Chunk>>
     ensures items { waiting.new.items ≡ waiting.old.items }
     ensures empty { IfSome result (λ left. left.items ≡ []) }
@@ -31,7 +31,7 @@ pub fn reserve_left(alloc: Global, waiting: &mut VecDeque<Waiting>) -> Option<Ve
     Some(left)
 }
 
-/// Lets a chunk wait for a number, behind what waits already, in a list that has room for it.
+/// Lets a chunk wait for a number, after those that wait already, in a list that has room for it.
 pub fn wait_behind(waiting: &mut VecDeque<Waiting>, mut left: Vec<Chunk>, chunk: Chunk, number: u64)
     requires empty { left.items ≡ [] }
     requires room { vec_len left < vec_capacity left }
@@ -46,7 +46,7 @@ pub fn wait_behind(waiting: &mut VecDeque<Waiting>, mut left: Vec<Chunk>, chunk:
     });
 }
 
-/// Makes the chunks free that wait for at most this number.
+/// Frees the chunks that wait for at most this number.
 pub fn free_due(pool: &mut Pool, waiting: &mut VecDeque<Waiting>, number: u64)
     requires held { AreHeld pool.old (waiting_chunks (waits_in waiting.old.items)) }
     requires rises { Pairwise (λ (v w : WaitingChunks). v.number ≤ w.number)
@@ -60,7 +60,7 @@ pub fn free_due(pool: &mut Pool, waiting: &mut VecDeque<Waiting>, number: u64)
     }
 }
 
-// Takes the oldest chunks out, if they wait for at most this number.
+// Takes out the oldest chunks, if they wait for at most this number.
 fn take_due(waiting: &mut VecDeque<Waiting>, number: u64) -> Option<Vec<Chunk>>
     ensures some { IfSome result (λ chunks. IsOldestDue number
         (waits_in waiting.old.items) chunks.items (waits_in waiting.new.items)) }
@@ -74,7 +74,7 @@ fn take_due(waiting: &mut VecDeque<Waiting>, number: u64) -> Option<Vec<Chunk>>
     Some(oldest.chunks)
 }
 
-// Makes held chunks free.
+// Frees held chunks.
 fn give_all(pool: &mut Pool, chunks: &[Chunk])
     requires { AreHeld pool.old chunks.now }
     ensures { pool.new ≡ with_chunks pool.old chunks.now }

@@ -7,8 +7,8 @@ use cm_pool::{Chunk, Place, Pool};
 use std::alloc::AllocError;
 use std::test::Fail;
 
-// Asks again if an allocation failed: arena and pool are as they were, so the answer is the one
-// that was due.
+// Tries again if an allocation failed: arena and pool are unchanged, so the result is the expected
+// one.
 fn place(arena: &mut Arena, words: u32, pool: &mut Pool) -> Result<Place, PlaceRefusal>
     requires { 1 ≤ words }
 {
@@ -18,11 +18,11 @@ fn place(arena: &mut Arena, words: u32, pool: &mut Pool) -> Result<Place, PlaceR
     }
 }
 
-// A chunk and how many words in it are used before, or a refusal.
+// A chunk and how many words in it are used before; or an error.
 type Answer = Result<(Parts, u32), PlaceRefusal>;
 
-// Whether this many words are placed in this chunk after this many others, or refused, and asking
-// first says whether the region is full.
+// Whether this many words are placed in this chunk after this many others, or rejected, and whether
+// `is_full` predicts if the region is full.
 fn is_placed(arena: &mut Arena, pool: &mut Pool, words: u32, expected: &Answer) -> bool
     requires { 1 ≤ words }
 {
@@ -54,7 +54,7 @@ const PLACED: [(u32, Answer); 7] = [
     (128, Ok(((0, 0, 128), 0))),
 ];
 
-// The first number of words that is answered otherwise.
+// The first number of words with a different result.
 fn place_each(arena: &mut Arena, pool: &mut Pool) -> Option<u32> {
     for (words, expected) in &PLACED {
         if !is_placed(arena, pool, *words, expected) {
@@ -64,7 +64,7 @@ fn place_each(arena: &mut Arena, pool: &mut Pool) -> Option<u32> {
     None
 }
 
-// How many words are used of a chunk, or that it is none of the arena's.
+// How many words of a chunk are used; `None` if the arena doesn't have the chunk.
 type Used = (Parts, Option<u32>);
 
 const USED: [Used; 5] = [
@@ -104,8 +104,8 @@ fn places_words(rt: HostRuntime) -> Result<(), Fail> {
     Ok(())
 }
 
-// Each of these fills a chunk: of order 0, 1, 2, 3, then of order 4 and no larger, out of a second
-// root; then no chunk of order 4 is free, but one of the order needed. The last two are refused.
+// Each of these fills a chunk: of order 0, 1, 2, 3, then of order 4 and no larger, from a second
+// root; then no chunk of order 4 is free, but one of the order needed. The last two are rejected.
 const GROWING: [(u32, Answer); 10] = [
     (128, Ok(((0, 0, 0), 0))),
     (256, Ok(((0, 1, 256), 0))),
@@ -119,7 +119,7 @@ const GROWING: [(u32, Answer); 10] = [
     (4097, Err(PlaceRefusal::RecordTooLong)),
 ];
 
-// The first number of words that is answered otherwise.
+// The first number of words with a different result.
 fn grow(arena: &mut Arena, pool: &mut Pool) -> Option<u32> {
     for (words, expected) in &GROWING {
         if !is_placed(arena, pool, *words, expected) {
@@ -151,7 +151,7 @@ const NEXT: [(Parts, u32, u32, bool); 11] = [
     ((0, 4_000_000_000, 0), 0, 1, false),
 ];
 
-// The first place that is answered otherwise.
+// The first place with a different result.
 fn adopt_each(arena: &mut Arena) -> Result<Option<Place>, AllocError> {
     for (parts, offset, words, next) in &NEXT {
         let place = Place {

@@ -22,7 +22,7 @@ pub fn hold(pool: &mut Pool, held: &mut Vec<Chunk>, order: u32) -> Result<Option
     Ok(Some(chunk))
 }
 
-// Gives a chunk back that was held.
+// Gives back a chunk that was held.
 pub fn give_held(pool: &mut Pool, held: &mut Vec<Chunk>, at: usize) -> Chunk
     requires held { AreHeld pool.old held.old.items }
     requires at { at < vec_len held.old }
@@ -34,7 +34,7 @@ pub fn give_held(pool: &mut Pool, held: &mut Vec<Chunk>, at: usize) -> Chunk
     chunk
 }
 
-// The same of the pool by a sorted list.
+// The same for the pool with a sorted list.
 pub fn hold_listed(
     pool: &mut ListPool,
     held: &mut Vec<Chunk>,

@@ -1,4 +1,4 @@
-// The pool by rows of bits beside the one by a sorted list: equal answers to equal calls.
+// The pool with rows of bits beside the one with a sorted list: equal results of equal calls.
 ghost use Rattle.std.specs.Prelude.{◌≤◌};
 
 use crate::held_chunks::{give_held, give_listed, hold, hold_listed};
@@ -18,7 +18,7 @@ struct Both {
     held_listed: Vec<Chunk>,
 }
 
-// Seen as how many chunks each holds.
+// Seen as how many chunks each of them holds.
 impl Model for Both {
     ghost use Rattle.std.specs.Prelude.{ℕ, vec_len};
     ghost use Rattle.cm_pool.specs.Held.{AreHeld};
@@ -30,7 +30,7 @@ impl Model for Both {
     ghost invariant = { λ b. AreHeld b.pool b.held.items × AreHeld b.listed b.held_listed.items };
 }
 
-// Adds this many roots to each.
+// Adds this many roots to each pool.
 fn add_roots(pool: &mut Pool, listed: &mut ListPool, roots: u32) -> Result<(), Fail> {
     for _ in 0..roots {
         if pool.add_root()? != listed.add_root()? {
@@ -41,7 +41,7 @@ fn add_roots(pool: &mut Pool, listed: &mut ListPool, roots: u32) -> Result<(), F
 }
 
 impl Both {
-    // Both with all their roots.
+    // Both pools with all their roots.
     fn whole(alloc: Global, top: u32, roots: u32) -> Result<Both, Fail> {
         let geometry = Geometry::new(top, roots, 256).ok_or("sizes")?;
         let mut pool = Pool::new(alloc, geometry)?;
@@ -55,14 +55,14 @@ impl Both {
         })
     }
 
-    // What each takes for the order.
+    // What each pool takes for the order.
     fn hold(&mut self, order: u32) -> Result<(Option<Chunk>, Option<Chunk>), AllocError> {
         let taken = hold(&mut self.pool, &mut self.held, order)?;
         let listed = hold_listed(&mut self.listed, &mut self.held_listed, order)?;
         Ok((taken, listed))
     }
 
-    // Gives the chunk at a place back to each, if both hold one there.
+    // Gives the chunk at a place back to each pool, if both hold one there.
     fn give(&mut self, at: usize) -> Option<(Chunk, Chunk)> {
         if at >= self.held.len() || at >= self.held_listed.len() {
             return None;
@@ -73,7 +73,8 @@ impl Both {
     }
 }
 
-// How many of this many chunks, the first ones that are held, are the same if they are given back.
+// Gives back the first chunk that is held, this many times; returns how often both gave back the
+// same one.
 fn give_first(both: &mut Both, times: u32) -> u32 {
     let mut equal = 0;
     for _ in 0..times {
@@ -84,8 +85,8 @@ fn give_first(both: &mut Both, times: u32) -> u32 {
     equal
 }
 
-// Whether both hand out the chunks that are due, give the three back alike, and hand out the whole
-// root then.
+// Whether both hand out the expected chunks, give the three back alike, and then hand out the whole
+// root.
 fn hand_out(both: &mut Both) -> Result<bool, AllocError> {
     let mut equal = true;
     for (order, first) in &HANDED_OUT {
@@ -102,8 +103,8 @@ fn both_hand_out_the_first_chunk(rt: HostRuntime) -> Result<(), Fail> {
     Ok(())
 }
 
-// Allocates 2,000 times, and gives back every third chunk: how many of these calls both answer
-// alike.
+// Allocates 2,000 times, and gives back every third chunk; returns for how many of these calls both
+// have the same result.
 fn compare_calls(both: &mut Both, top: u32) -> Result<u32, Fail>
     requires { top ≤ 12 }
 {
@@ -135,7 +136,8 @@ fn both_answer_alike(rt: HostRuntime) -> Result<(), Fail> {
     Ok(())
 }
 
-// Takes this many of the smallest blocks: how many of these calls both answer with the same block.
+// Takes this many of the smallest blocks; returns for how many of these calls both take the same
+// block.
 fn take_smallest(both: &mut Both, times: u32) -> Result<u32, AllocError> {
     let mut equal = 0;
     for _ in 0..times {
@@ -145,7 +147,7 @@ fn take_smallest(both: &mut Both, times: u32) -> Result<u32, AllocError> {
     Ok(equal)
 }
 
-// The root of the chunk at a place, which both hand out again once it was given back.
+// The root of the chunk at a place, which both hand out again after it is given back.
 fn root_of_the_only_free(both: &mut Both, at: usize) -> Result<u32, Fail> {
     let (given, listed) = both.give(at).ok_or("held")?;
     if both.hold(0)? != (Some(given), Some(listed)) {
@@ -154,7 +156,7 @@ fn root_of_the_only_free(both: &mut Both, at: usize) -> Result<u32, Fail> {
     Ok(given.root)
 }
 
-// Whether both take all blocks alike, none is left then, and the last one is of the last root.
+// Whether both take all blocks alike, none is left then, and the last one is in the last root.
 fn take_all(both: &mut Both) -> Result<bool, Fail> {
     Ok(
         take_smallest(both, 9 * 512)? == 9 * 512
@@ -163,7 +165,7 @@ fn take_all(both: &mut Both) -> Result<bool, Fail> {
     )
 }
 
-// Every word is taken, one of each order at least, down to the last block of the last row.
+// Every word is taken, at least one of each order, down to the last block of the last row.
 #[test]
 fn both_are_empty_at_once(rt: HostRuntime) -> Result<(), Fail> {
     let mut both = Both::whole(rt.alloc(), 9, 9)?;

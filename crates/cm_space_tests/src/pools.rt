@@ -23,7 +23,7 @@ const SIZES: [(u32, u32, u32, bool); 8] = [
     (3, 1, 65_537, false),
 ];
 
-// Whether there is a region of these sizes, which are its own then, or none.
+// Whether there is a region of these sizes, with exactly these; or there is none.
 fn keeps_sizes(top: u32, roots: u32, slots: u32, within: bool) -> bool {
     match Geometry::new(top, roots, slots) {
         Some(geometry) => {
@@ -50,7 +50,7 @@ const MEETING: [(Parts, Parts, bool); 12] = [
     ((0, 2, 0), (0, 0, 384), true),
     ((0, 2, 0), (0, 0, 512), false),
     ((0, 0, 0), (1, 0, 0), false),
-    // Chunks that no region has, as a damaged file may name them.
+    // Chunks that no region has, but a damaged file may name.
     ((0, 4_000_000_000, 0), (0, 0, 4_294_967_168), true),
     ((0, 4_000_000_000, 1), (0, 0, 0), true),
     ((0, 4_000_000_000, 128), (0, 0, 0), false),
@@ -68,7 +68,7 @@ fn meets_where_a_word_is_shared(rt: HostRuntime) {
     }
 }
 
-// Adds a root; once more if an allocation failed, since the pool is as it was.
+// Adds a root; tries again if an allocation failed, since the pool is unchanged.
 fn add_root(pool: &mut Pool) -> Result<bool, AllocError> {
     match pool.add_root() {
         Ok(added) => Ok(added),
@@ -85,7 +85,7 @@ fn whole_pool(alloc: Global, top: u32, roots: u32) -> Result<Pool, Fail> {
     Ok(pool)
 }
 
-// Whether the chunks are handed out that are due.
+// Whether the expected chunks are handed out.
 fn hand_out(pool: &mut Pool, held: &mut Vec<Chunk>) -> Result<bool, AllocError>
     requires { AreHeld pool.old held.old.items }
     ensures { AreHeld pool.new held.new.items }
@@ -97,7 +97,7 @@ fn hand_out(pool: &mut Pool, held: &mut Vec<Chunk>) -> Result<bool, AllocError>
     Ok(equal)
 }
 
-// Whether the whole root is handed out once all that was held is given back.
+// Whether the whole root is handed out once everything that was held is given back.
 fn hand_out_again(pool: &mut Pool, held: &mut Vec<Chunk>) -> Result<bool, AllocError>
     requires { AreHeld pool.old held.old.items }
 {
@@ -120,14 +120,14 @@ fn hands_out_the_first_chunk(rt: HostRuntime) -> Result<(), Fail> {
     hand_out_twice(&rt, rt.alloc(), &mut pool)
 }
 
-// Chunks that are asked for in turn, and whether each is taken.
+// Chunks that are requested in turn, and whether each is taken.
 const TAKEN: [(Parts, bool); 12] = [
     ((0, 1, 256), true),
     ((0, 1, 256), false),
     ((0, 0, 384), false),
     ((0, 2, 0), false),
     ((0, 1, 0), true),
-    // No chunks of a present root.
+    // Chunks that aren't in a present root.
     ((1, 0, 0), false),
     ((0, 0, 640 + 1), false),
     ((0, 1, 640), false),
@@ -137,7 +137,7 @@ const TAKEN: [(Parts, bool); 12] = [
     ((0, 2, 512), true),
 ];
 
-// The first chunk that is answered otherwise.
+// The first chunk with a different result.
 fn take_each(pool: &mut Pool) -> Option<Chunk> {
     for (wanted, taken) in &TAKEN {
         let wanted = chunk(*wanted);
@@ -190,8 +190,8 @@ fn insert_words(free: &mut BTreeSet<u64>, words: Range<u64>) -> Result<(), Alloc
     Ok(())
 }
 
-// Takes the first chunk of an order, and its words out of the set: whether it is the first one
-// there.
+// Takes the first chunk of an order, and removes its words from the set; returns whether it is the
+// first one there.
 fn take_first(
     pool: &mut Pool,
     held: &mut Vec<Chunk>,
@@ -211,8 +211,8 @@ fn take_first(
     Ok(taken == first)
 }
 
-// Allocates 2,000 times, and gives back every third chunk: the first call that is answered
-// otherwise than the set of free words says.
+// Allocates 2,000 times, and gives back every third chunk; returns the first call whose result
+// differs from what the set of free words says.
 fn compare_calls(
     pool: &mut Pool,
     held: &mut Vec<Chunk>,
@@ -245,15 +245,15 @@ fn agrees_with_a_set_of_words(rt: HostRuntime) -> Result<(), Fail> {
     Ok(())
 }
 
-// Whether there are two roots: the first is handed out whole, and then the front of the second.
+// Whether there are two roots: the first is handed out whole, followed by the front of the second.
 fn hand_out_both(pool: &mut Pool) -> bool {
     pool.roots() == 2
         && pool.alloc(3) == Some(chunk((0, 3, 0)))
         && pool.alloc(0) == Some(chunk((1, 0, 0)))
 }
 
-// Whichever allocation fails, the pool is as it was: what is asked again is answered as if nothing
-// had happened.
+// Whichever allocation fails, the pool is unchanged: a repeated call has the same result as if
+// nothing had happened.
 #[test]
 fn a_failed_allocation_leaves_the_pool_as_it_was(rt: HostRuntime) -> Result<(), Fail> {
     let mut pool = whole_pool(rt.alloc(), 3, 2)?;

@@ -3,7 +3,7 @@ use cm_pool::{Chunk, Geometry, Pool};
 use std::alloc::{AllocError, Global};
 use std::test::Fail;
 
-// A chunk as tables have it: its root, its order, and its first word there.
+// A chunk as tables give it: its root, its order, and its first word there.
 pub type Parts = (u32, u32, u32);
 
 pub fn chunk(parts: Parts) -> Chunk {
@@ -11,7 +11,7 @@ pub fn chunk(parts: Parts) -> Chunk {
     Chunk { root, order, at }
 }
 
-// An empty pool; asked for once more if an allocation failed.
+// An empty pool; tries again if an allocation failed.
 pub fn empty_pool(alloc: Global, top: u32, roots: u32) -> Result<Pool, Fail> {
     let geometry = Geometry::new(top, roots, 256).ok_or("sizes")?;
     match Pool::new(alloc, geometry) {
@@ -20,8 +20,8 @@ pub fn empty_pool(alloc: Global, top: u32, roots: u32) -> Result<Pool, Fail> {
     }
 }
 
-// The orders of chunks that are asked for in turn, of one root of order 3, and the chunks that are
-// handed out.
+// The orders of chunks that are requested in turn, from one root of order 3, and the chunks that
+// are handed out.
 pub const HANDED_OUT: [(u32, Option<Chunk>); 4] = [
     (
         0,

@@ -1,5 +1,5 @@
-// The worked cases of a region with one root of 1,024 words, and places that are found again.
-// What a test does with a space stands in a function that borrows it.
+// The worked cases of a region with one root of 1,024 words, and places that are adopted from a
+// file. What a test does with a space is in a function that borrows it.
 ghost use Rattle.std.specs.Prelude.{◌≡◌, ◌≤◌, ℕ, [], IfOk, OnOk};
 ghost use Rattle.std.specs.List.{AllByRecursion};
 ghost use Rattle.cm_space.specs.Space.{WaitingChunks};
@@ -24,8 +24,8 @@ fn place_of(parts: PlaceParts) -> Place {
     }
 }
 
-// An empty space. Like all that follows it is asked for once more if an allocation failed: a
-// space is as it was then, so the answer is the one that was due.
+// An empty space. Like all calls below it is tried again if an allocation failed: the space is
+// unchanged then, so the result is the expected one.
 fn empty(alloc: Global, top: u32, roots: u32) -> Result<Space, Fail>
     ensures { IfOk result (λ space. space.waiting ≡ []) }
 {
@@ -85,7 +85,7 @@ fn leave(space: &mut Space, loader: u64, number: u64) -> Result<(), Fail>
     Ok(())
 }
 
-// Of the roots that an adopted place needs some may have been added if an allocation failed.
+// If an allocation failed, some of the roots that an adopted place needs may have been added.
 fn adopt(space: &mut Space, loader: u64, place: Place) -> Result<bool, Fail> {
     if !space.is_known(loader) {
         return Err("not known".into());
@@ -96,7 +96,8 @@ fn adopt(space: &mut Space, loader: u64, place: Place) -> Result<bool, Fail> {
     }
 }
 
-// Loader 1 has the whole root, and leaves it for the number 4: whether it is known no more.
+// Loader 1 has the whole root, and leaves it for the number 4; returns whether the loader is no
+// longer known.
 fn leave_whole(space: &mut Space) -> Result<bool, Fail>
     requires { space.old.waiting ≡ [] }
 {
@@ -107,15 +108,16 @@ fn leave_whole(space: &mut Space) -> Result<bool, Fail>
     Ok(is_whole && !space.is_known(1) && space.chunks(1).is_none())
 }
 
-// A number that is learnt, and where words find a place then: at the front of the root, or nowhere.
+// A number that is learnt, and where words find a place afterwards: at the front of the root, or
+// nowhere.
 const LEARNT: [(u64, Result<PlaceParts, PlaceRefusal>); 3] = [
     (0, Err(PlaceRefusal::RegionFull)),
     (3, Err(PlaceRefusal::RegionFull)),
     (4, Ok(((0, 0, 0), 0, 16))),
 ];
 
-// The first number after which 16 words are answered otherwise, or it isn't told whether the
-// region is full.
+// The first number after which placing 16 words has a different result, or `is_full` doesn't
+// predict whether the region is full.
 fn learn_and_place(space: &mut Space) -> Result<Option<u64>, Fail> {
     for (number, expected) in &LEARNT {
         space.learn(*number);
@@ -152,7 +154,7 @@ fn a_left_chunk_waits_for_its_number(rt: HostRuntime) -> Result<(), Fail> {
     leave_and_learn(&rt, &mut space)
 }
 
-// Asks again if an allocation failed.
+// Tries again if an allocation failed.
 fn tighten(space: &mut Space, loader: u64, number: u64) -> Result<Option<Moved>, Fail>
     requires { space.old.waiting ≡ [] }
 {
@@ -180,7 +182,7 @@ fn moves_down_once(space: &mut Space) -> Result<bool, Fail>
     Ok(is_moved && space.is_known(1) && space.is_tight(1))
 }
 
-// Whether words of a new loader find a place in the chunk that was left, after what is learnt.
+// Whether words of a new loader find a place in the old chunk, after what is learnt.
 fn has_left_chunk(space: &mut Space, loader: u64, learnt: u64) -> Result<bool, Fail> {
     space.learn(learnt);
     add_loader(space, loader)?;
@@ -202,7 +204,7 @@ fn what_is_learnt_frees_the_older_alone(rt: HostRuntime) -> Result<(), Fail> {
     learn_each(&rt, &mut space)
 }
 
-// Loaders 1 and 2 leave half of the root each, for the numbers 4 and 6.
+// Loaders 1 and 2 each leave half of the root, for the numbers 4 and 6.
 fn leave_two(space: &mut Space) -> Result<(), Fail>
     requires { space.old.waiting ≡ [] }
 {
@@ -227,7 +229,7 @@ const BACK: Chunk = Chunk {
     at: 512,
 };
 
-// A number that is learnt, and the half of the root that is free then.
+// A number that is learnt, and the half of the root that is free afterwards.
 const HALVES: [(u64, Option<Chunk>); 3] = [(3, None), (5, Some(FRONT)), (6, Some(BACK))];
 
 fn learn_each(rt: &impl Abort, space: &mut Space) -> Result<(), Fail> {
@@ -263,14 +265,16 @@ const PLACED: [(u64, u32); 8] = [
     (1, 12),
 ];
 
-// Whether the second space adopts a place once, and both use as many words of its chunk then.
+// Whether the second space adopts a place only once, and then both spaces use as many words of its
+// chunk.
 fn adopt_once(first: &Space, second: &mut Space, loader: u64, found: Place) -> Result<bool, Fail> {
     let once = adopt(second, loader, found)? && !adopt(second, loader, found)?;
     let used = first.used_words(loader, &found.chunk);
     Ok(once && second.used_words(loader, &found.chunk) == used)
 }
 
-// What the first space places the second one adopts, once: the first place that it doesn't.
+// The second space adopts, once, what the first one places; returns the first place for which it
+// doesn't.
 fn find_again(first: &mut Space, second: &mut Space) -> Result<Option<Place>, Fail> {
     for loader in &LOADERS {
         add_loader(first, *loader)?;
@@ -307,7 +311,7 @@ fn make_the_same(rt: &impl Abort, first: &mut Space, second: &mut Space) -> Resu
 // Numbers of words that are placed in both.
 const GOING_ON: [u32; 7] = [1, 128, 129, 600, 1, 2000, 40];
 
-// What is free is the same in both: the first number of words that has another answer in each.
+// The same words are free in both spaces; returns the first number of words with different results.
 fn go_on(first: &mut Space, second: &mut Space) -> Result<Option<u32>, Fail> {
     for words in &GOING_ON {
         if place(second, 3, *words)? != place(first, 3, *words)? {
@@ -330,7 +334,7 @@ fn adopt_next(rt: &impl Abort, space: &mut Space) -> Result<(), Fail> {
     Ok(())
 }
 
-// What is no place where no root is.
+// Places that aren't valid, in a root that isn't present.
 const REFUSED: [PlaceParts; 7] = [
     ((2, 1, 1), 0, 256),
     ((2, 4, 0), 0, 256),
@@ -341,7 +345,8 @@ const REFUSED: [PlaceParts; 7] = [
     ((2, 1, 0), 1, 255),
 ];
 
-// No root is added for a place that is refused: the first one that isn't, or has a root added.
+// No root is added for a place that is rejected; returns the first one that isn't rejected, or for
+// which a root is added.
 fn refuse_before_roots(space: &mut Space) -> Result<Option<Place>, Fail> {
     add_loader(space, 1)?;
     add_loader(space, 2)?;
@@ -354,7 +359,7 @@ fn refuse_before_roots(space: &mut Space) -> Result<Option<Place>, Fail> {
     Ok(None)
 }
 
-// The loader, the place, whether it is taken over, and the roots that are present then.
+// The loader, the place, whether it is adopted, and how many roots are present afterwards.
 const ADOPTED: [(u64, PlaceParts, bool, u32); 11] = [
     (1, ((1, 1, 0), 0, 100), true, 2),
     (2, ((1, 1, 0), 0, 100), false, 2),
@@ -369,7 +374,7 @@ const ADOPTED: [(u64, PlaceParts, bool, u32); 11] = [
     (2, ((0, 3, 0), 0, 1), true, 3),
 ];
 
-// The loader and the place that are answered otherwise first.
+// The first loader and place with a different result.
 fn adopt_or_refuse(space: &mut Space) -> Result<Option<(u64, Place)>, Fail> {
     for (loader, parts, taken, roots) in &ADOPTED {
         let place = place_of(*parts);

@@ -1,4 +1,4 @@
-//! Buffers of words: what they hold, as words and as bytes, and threads that read one.
+//! Buffers of words: what they hold, as words and as bytes, and threads that read the same buffer.
 ghost use Rattle.std.specs.Prelude.{◌≡◌, IfOk, length};
 
 use cm_words::WordBuf;
@@ -19,12 +19,12 @@ fn three_words(alloc: Global) -> Result<WordBuf, Fail>
     Ok(words)
 }
 
-// Whether there are three, with room for this many more.
+// Whether there are three words, with room for this many more.
 fn has_three(words: &WordBuf, room: usize) -> bool {
     words.len() == 3 && words.room() == room
 }
 
-// Whether the second word is 7, and 9 once it is set, and a word after the last takes all room.
+// Whether the second word is 7, and 9 once it is set, and a word after the last uses all the room.
 fn set_and_push(words: &mut WordBuf) -> bool
     requires len { length words.old.words ≡ 3 }
     requires room { words.old.capacity ≡ 4 }
@@ -44,7 +44,7 @@ fn words_are_kept(rt: HostRuntime) -> Result<(), Fail> {
     Ok(())
 }
 
-// Whether a buffer of these words has them, with room for no more, and none after them.
+// Whether a copy of these words has them, with room for no more, and none after them.
 fn is_copied_whole(words: &mut WordBuf) -> bool
     requires len { length words.old.words ≡ 3 }
     requires room { words.old.capacity ≡ 3 }
@@ -55,7 +55,7 @@ fn is_copied_whole(words: &mut WordBuf) -> bool
     is_equal && room == 0 && words.len() == 3
 }
 
-// Whether one more word goes after the three.
+// Whether one more word is appended to the three.
 fn is_extended(words: &mut WordBuf) -> bool
     requires len { length words.old.words ≡ 3 }
     requires room { words.old.capacity ≡ 4 }
@@ -75,7 +75,7 @@ fn slices_are_copied_whole(rt: HostRuntime) -> Result<(), Fail> {
     Ok(())
 }
 
-// The first two words as bytes, and then the third in the place of the second.
+// The first two words as bytes, and then the third instead of the second.
 fn bytes_of(words: &WordBuf) -> ([u8; 16], [u8; 16])
     requires { length words.now.words ≡ 3 }
 {
@@ -113,13 +113,13 @@ fn mix(words: &WordBuf) -> u64 {
     all
 }
 
-// Whether two threads read the same while they have it.
+// Whether two threads that share the buffer read the same.
 fn read_in_two(rt: &impl Threads, words: &WordBuf, expected: u64) -> bool {
     let (one, other) = thread::join(rt, || mix(words), || mix(words));
     one == expected && other == expected
 }
 
-// It is read while two threads have it, and moves to a third.
+// Two threads read the buffer at once, and then it moves to a third.
 #[test]
 fn two_threads_read_one_buffer(rt: HostRuntime) -> Result<(), Fail> {
     let words = three_words(rt.alloc())?;

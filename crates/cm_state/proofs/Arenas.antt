@@ -1,4 +1,4 @@
--- Arenas by loaders' names: their chunks share no word, and each record lies in its loader's.
+-- Arenas by loaders' names: their chunks share no word, and each record is in its loader's.
 -- For `arenas_are_apart`.
 use Rattle.std.proofs.Common.{◌≡◌, ℕ, ◌+◌, ◌≤◌, Bool, true, false, cond, List, [], ◌∷◌, ◌++◌}
 use Rattle.std.proofs.Common.{map, Option, Some, None, inl, inr, refl, sym, ap, subst, ◌∙◌, arith}
@@ -77,7 +77,7 @@ chunks_more : (u : ℕ) (classes : List ClassRow) (r : ClassRow)
     → chunks_of u (classes ++ r ∷ []) ≡ chunks_of u classes ++ chunks_of u (r ∷ [])
 chunks_more u classes r = chosen_more _ classes r
 
--- each of them is that of a record of the loader
+-- each of the chunks has a record of the loader
 record IsOf (u : ℕ) (classes : List ClassRow) (c : Chunk) : Type 0 where
   row : ClassRow
   among : Among row classes
@@ -154,7 +154,7 @@ used_some c (r ∷ classes) s m on =
 
 -- ---- rows that keep the rules
 
--- each record has words and lies in a chunk of its loader's, and no two of a loader's share a word
+-- each record has words and is in a chunk of its loader, and no two chunks of a loader share a word
 record AreTold (classes : List ClassRow) : Type 0 where
   words : (r : ClassRow) → Among r classes → 1 ≤ r.place.words
   held : (r : ClassRow) → Among r classes → Among r.place.chunk (chunks_of r.loader classes)
@@ -163,7 +163,7 @@ record AreTold (classes : List ClassRow) : Type 0 where
 none_told : AreTold []
 none_told = record { words = λ r m. absurd m; held = λ r m. absurd m; apart = λ u. tt }
 
--- a record lies where its loader's last one does, or first in a chunk
+-- a record is in the chunk of its loader's last one, or first in a chunk
 held_now : (pre : List BareRow) (r : ClassRow) → AreTold (classes_in pre) → has_place pre r ≡ true
     → Among r.place.chunk (chunks_of r.loader (classes_in pre ++ r ∷ []))
 held_now pre r told h =
@@ -192,7 +192,7 @@ held_now pre r told h =
     by_tests true e false f = absurd (cc)
     by_tests false e t f = absurd (cc)
 
--- the first record in a chunk lies apart from those before it
+-- the first record in a chunk is apart from those before it
 first_apart : (pre : List BareRow) (r : ClassRow) → AreTold (classes_in pre)
     → has_place pre r ≡ true
     → eqb r.place.offset 0 ≡ true → (s : ClassRow) → Among s (classes_in pre)
@@ -301,7 +301,7 @@ arena_found classes (Loader r ∷ rows) x =
     by_test false rest = rest
 arena_found classes (Class r c ∷ rows) x = arena_found classes rows x
 
--- a chunk list of a name is that of the loader that has it
+-- the list of chunks under a name is that of the loader with the name
 record IsListed (rows : List (Row ClassFile)) (x : List ℕ) (cs : List Chunk) : Type 0 where
   number : ℕ
   there : number_of x rows ≡ Some number
@@ -326,7 +326,7 @@ listed rows x cs got =
 
 -- ---- contents that stand for a cache
 
--- what is used of the rows that stand
+-- what is used about the rows of such contents
 record StandApart (rows : List (Row ClassFile)) : Type 0 where
   told : AreTold (classes_in rows)
   differ : LoadersDiffer rows

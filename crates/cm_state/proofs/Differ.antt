@@ -1,4 +1,4 @@
--- Loaders and classes that differ: what is found by one is found by the other, and they differ on
+-- Loaders and classes that differ: what is found one way is found the other, and they still differ
 -- after an entry.
 -- For `arenas_are_apart`, `entries_are_steps`, `rows_tell_state`.
 use Rattle.std.proofs.Common.{◌≡◌, ℕ, Bool, true, false, cond, List, [], ◌∷◌, ◌++◌, Option, Some}

@@ -16,7 +16,7 @@ use Rattle.cm_pool.specs.Chunks.{chunk_size, same_chunk}
 use Rattle.cm_pool.specs.Lists.{Among}
 use Rattle.cm_layout.specs.declared.loader_row.LoaderRow.{LoaderRow}
 use Rattle.cm_layout.specs.declared.class_row.ClassRow.{ClassRow}
-use Rattle.cm_layout.specs.declared.relocation.Move.{Move}
+use Rattle.cm_layout.specs.declared.move_entry.Move.{Move}
 use Rattle.cm_layout.specs.declared.row.Row.{Row}
 use Rattle.cm_layout.specs.declared.row.Row.TheVariants.{Loader, Class}
 use Rattle.cm_layout.specs.declared.entry.Entry.{Entry}
@@ -171,7 +171,7 @@ class_may {A} sizes rows r c h =
           omega (arith, a, b);
     }
 
--- ---- what is there
+-- ---- what exists
 
 loader_there : {A : Type 0} (shows : Shows A) (rows : List (Row A)) (x : List ℕ) (u : ℕ)
     → number_of x rows ≡ Some u → is_some (get (state_of shows rows) x) ≡ true
@@ -279,7 +279,7 @@ live-bare sizes n rows (Loader r) =
 live-bare sizes n rows (Class r c) =
     rw (name-bare r.loader rows) (rw (slots-bare rows) (rw (classes-bare rows) refl))
 
--- of rows as much is counted as of their state
+-- rows are counted like their state
 weighed : {A : Type 0} → (List ℕ → ℕ) → List (Row A) → ℕ
 weighed counts [] = 0
 weighed counts (Loader r ∷ rows) = counts r.name + weighed counts rows
@@ -377,7 +377,7 @@ fits-bare (entry.Unload e) f = f
 fits-bare (entry.Move e) f = f
 fits-bare (entry.UnloadAll e) f = f
 
--- a loader whose last chunk is moved has a class, so it lives
+-- a loader whose last chunk is moved has a class, so the loader lives
 last_of : (u : ℕ) (classes : List ClassRow) (c : Chunk) → last_chunk u classes ≡ Some c
     → (r : ClassRow) × Among r classes × (r.loader ≡ u)
 last_of u [] c h = absurd (cc)
@@ -444,7 +444,7 @@ next_rows {A} stay shows sizes n rows e are may differ =
       differ = differ;
     }
 
--- as many as may go at once, none of them twice
+-- a list that may be unloaded at once: not too many, none of them twice
 list_of : (xs : List (List ℕ)) → 1 ≤ length xs → length xs ≤ unload_limit
     → names_differ xs ≡ true → is_list xs ≡ true
 list_of xs some few apart =

@@ -1,4 +1,4 @@
--- Changes one after another: those behind others go on from where the others came to.
+-- Changes one after another: later ones continue from where the earlier ones lead.
 -- For `changes_go_on`.
 use Rattle.std.proofs.Common.{◌≡◌, ℕ, ◌+◌, List, [], ◌∷◌, ◌++◌, length, Option, Some, None, Result}
 use Rattle.std.proofs.Common.{Ok, Err, refl, ap, arith}

@@ -1,4 +1,4 @@
--- Of loaders that go at once exactly theirs is gone.
+-- If loaders are unloaded at once, exactly these are removed.
 -- For `named_loaders_go`.
 use Rattle.std.proofs.Common.{◌≡◌, ℕ, Bool, true, false, cond, List, [], ◌∷◌, Option, None, refl}
 use Rattle.std.proofs.Common.{ap, ◌∙◌}

@@ -1,5 +1,5 @@
--- Loaders that go at once go one after another: their names are those of a list that may, and the
--- state is the one without them.
+-- Loaders that are unloaded at once are removed one after another: their names form a list that may
+-- be unloaded, and the state is the one without them.
 -- For `entries_are_steps` and others.
 use Rattle.std.proofs.Common.{◌≡◌, ℕ, ◌+◌, ◌^◌, ◌<◌, Bool, true, false, cond, List, [], ◌∷◌}
 use Rattle.std.proofs.Common.{length, Some, None, refl, sym, ap, subst, ◌∙◌, arith, eqb, is_some}
@@ -23,7 +23,7 @@ use Rattle.cm_state.proofs.Maps.{got-remove}
 use Rattle.cm_state.proofs.RowStates.{state_without, is_loader_found}
 use Rattle.cm_state.proofs.Differ.{number_found, only_name, some_name}
 
--- what is known of the names of loaders that go
+-- what is known of the names of loaders that are removed
 pub record Leave {A : Type 0} (shows : Shows A) (rows : List (Row A)) (us : List ℕ) : Type 0 where
   pub names : List (List ℕ)
   pub names_are : names_of rows us ≡ Some names
@@ -40,7 +40,7 @@ not_true : (t : Bool) → not t ≡ true → t ≡ false
 not_true true e = absurd (cc)
 not_true false e = refl
 
--- what is there without one loader is of another name, and was there with it
+-- what exists without one loader has another name, and existed with it
 there_before : {A : Type 0} (m : Loaders A) (x : List ℕ) (ys : List (List ℕ))
     → list_all (λ y. is_some (get (remove m x) y)) ys ≡ true
     → (list_all (λ y. not (bytes_eq x y)) ys ≡ true)
@@ -59,7 +59,7 @@ there_before {A} m x (y ∷ ys) h =
     by_test true is some = absurd (cc)
     by_test false is some = (ap not is, some)
 
--- the others have the names that they had
+-- the others keep their names
 names-without : {A : Type 0} (rows : List (Row A)) (u : ℕ) (us : List ℕ)
     → list_all (λ v. not (eqb u v)) us ≡ true
     → names_of (without_loader u rows) us ≡ names_of rows us
@@ -70,7 +70,7 @@ names-without rows u (v ∷ us) h =
     let rest = names-without rows u us parts.1 in
     (λ i. option_and_then (λ x. option_map (λ xs. x ∷ xs) (rest i)) (one i))
 
--- Rows of a cache stay such without one of their loaders.
+-- Rows of a cache are still rows of a cache without one of their loaders.
 abbrev pub StayWithout : (A : Type 0) → Shows A → Sizes → Type 0
 StayWithout A shows sizes =
     (n : ℕ) (rows : List (Row A)) (u : ℕ) → AreCacheRows shows sizes n rows → u < 2 ^ 64

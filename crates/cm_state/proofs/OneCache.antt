@@ -12,11 +12,11 @@ use Rattle.cm_state.specs.State.{class_shows, state_of}
 use Rattle.cm_state.specs.Stands.{EachKeepsRules, arenas_among}
 use Rattle.cm_state.specs.Laws.{StandForOne}
 
--- no two classes have one layout
+-- no two classes have the same layout
 abbrev pub LayIsOne : Type 0
 LayIsOne = (c d : ClassFile) → HasSpelling c → HasSpelling d → lay c ≡ lay d → c ≡ d
 
--- rows whose records have the same words are of the same classes
+-- rows whose records have the same words have the same classes
 same_classes : LayIsOne → (xs ys : List (Row ClassFile)) → EachKeepsRules xs → EachKeepsRules ys
     → rows_with lay xs ≡ rows_with lay ys → xs ≡ ys
 same_classes one [] [] kx ky e = refl

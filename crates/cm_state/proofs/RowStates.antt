@@ -144,7 +144,7 @@ class_more {A} shows u name (Class r c ∷ rows) row =
     by_test true rest = refl
     by_test false rest = rest
 
--- a loader more has no part in what others have
+-- one more loader doesn't affect what others have
 classes_beside : {A : Type 0} (shows : Shows A) (u : ℕ) (rows : List (Row A)) (r : LoaderRow)
     → classes_of shows u (rows ++ Loader r ∷ []) ≡ classes_of shows u rows
 classes_beside shows u rows r =
@@ -153,7 +153,7 @@ classes_beside shows u rows r =
     ∙ (class_more shows u name rows (Loader r)
     ∙ (or_none (class_among shows u name rows) ∙ sym (class_found shows u rows name))))
 
--- a loader that no class names has none
+-- a loader that no class names has no classes
 none_among : {A : Type 0} (shows : Shows A) (u : ℕ) (name : List ℕ) (rows : List (Row A))
     → ((r : ClassRow) → Among r (classes_in rows) → ¬ (r.loader ≡ u))
     → class_among shows u name rows ≡ None
@@ -209,7 +209,7 @@ state_with_loader {A} shows rows r new other =
         ∙ ap Some (classes_beside shows r.number rows r ∙ no_classes shows r.number rows other)
     by_name x false is = by_number (number_of x rows)
 
--- ---- a class more
+-- ---- one more class
 
 class_beside : {A : Type 0} (shows : Shows A) (u : ℕ) (rows : List (Row A)) (r : ClassRow) (c : A)
     → eqb r.loader u ≡ false
@@ -249,7 +249,7 @@ class_joins {A} shows rows r c new =
         ((bytes_decides (shows.name c) name).0 is) new)
     by_name name false is = or_none (class_among shows r.loader name rows)
 
--- x is the one name of a live loader's number
+-- x is the only name with a live loader's number
 abbrev pub IsOnly : {A : Type 0} → List (Row A) → List ℕ → ℕ → Type 0
 IsOnly rows x u = (y : List ℕ) → number_of y rows ≡ Some u → y ≡ x
 

@@ -1,4 +1,4 @@
--- What is counted in a state, as it grows: loaders and classes, or the slots that they take.
+-- What is counted in a state, as the state grows: loaders and classes, or the slots that they take.
 -- For `entries_are_steps`, `rows_tell_state`.
 use Rattle.std.proofs.Common.{◌≡◌, ℕ, suc, ◌+◌, Bool, true, false, cond, List, [], ◌∷◌, length}
 use Rattle.std.proofs.Common.{Option, Some, None, refl, ap, ◌∙◌, arith, is_some}
@@ -12,7 +12,7 @@ use Rattle.std.specs.FinMap.{entries-insert, entries_sorted, get-entries, len-in
 use Rattle.std.specs.FinMap.Entries.{length-put, below_all, by_order}
 use Rattle.cm_state.specs.State.{ByName, Loaders, total}
 
--- a loader that counts for so much, and its classes
+-- a loader that counts for this much, and its classes
 weight : {A : Type 0} → ℕ → Option (ByName A) → ℕ
 weight n None = 0
 weight n (Some classes) = n + len classes
@@ -59,7 +59,7 @@ total_put {A} counts k v (e ∷ es) sorted =
     by_place Equal long rest = omega arith
     by_place Greater long rest = omega (arith, rest)
 
--- so much is counted in a state
+-- how much is counted in a state
 abbrev pub counted : {A : Type 0} → (List ℕ → ℕ) → Loaders A → ℕ
 counted counts m = total counts (entries m)
 

@@ -1,4 +1,5 @@
--- What an entry of the journal does to the cache: it is a change, by the rows before it.
+-- What an entry of the journal does to the cache: it makes a change, which depends on the rows
+-- before it.
 use Rattle.std.specs.Prelude.{◌≡◌, ℕ, ◌+◌, List, [], ◌∷◌, Option, Some, None}
 use Rattle.std.specs.Option.{option_map, option_and_then}
 use Rattle.cm_pool.specs.Geometry.{Sizes}
@@ -19,7 +20,7 @@ names_of rows [] = Some []
 names_of rows (u ∷ us) =
     option_and_then (λ x. option_map (λ xs. x ∷ xs) (names_of rows us)) (name_of u rows)
 
--- the change that an entry makes, by the names of loaders in the rows before it
+-- the change that an entry makes, with the names of loaders from the rows before it
 abbrev pub change_of : {A : Type 0} → List (Row A) → Entry A → Option (Change A)
 change_of rows (entry.Live (Loader r)) = Some (AddLoader r.name)
 change_of rows (entry.Live (Class r c)) = option_map (λ x. Define x c) (name_of r.loader rows)
@@ -35,7 +36,7 @@ pub record AreCacheRows {A : Type 0} (shows : Shows A) (sizes : Sizes) (n : ℕ)
   pub apart : AreApart (classes_in rows)
   pub differ : NamesDiffer shows [] rows
 
--- a class is new in its loader, and its row names as many words as its record has
+-- a class is new in its loader, and its row states as many words as its record has
 abbrev pub IsNewClass : {A : Type 0} → Shows A → List (Row A) → Entry A → Type 0
 IsNewClass shows rows (entry.Live (Loader r)) = Unit {0}
 IsNewClass shows rows (entry.Live (Class r c)) =

@@ -5,7 +5,7 @@ use Rattle.cm_pool.specs.Geometry.{Sizes}
 use Rattle.cm_state.specs.State.{Loaders, Shows}
 use Rattle.cm_state.specs.Step.{Change, step}
 
--- the state that they come to and the number of the last; none where a cause stands against one of
+-- the state that they lead to and the number of the last; none if there is a cause against one of
 -- them
 abbrev pub fold : {A : Type 0} → Shows A → Sizes → Loaders A → ℕ → List (Change A)
     → Option (Loaders A × ℕ)
@@ -14,7 +14,7 @@ fold shows sizes m n (change ∷ changes) =
     elim (step shows sizes m n change)
     [ Ok next ↦ fold shows sizes next (n + 1) changes | Err cause ↦ None ]
 
--- from the empty cache on
+-- the same from the empty cache on
 abbrev pub fold_from_empty : {A : Type 0} → Shows A → Sizes → List (Change A)
     → Option (Loaders A × ℕ)
 fold_from_empty shows sizes changes = fold shows sizes map.empty 0 changes

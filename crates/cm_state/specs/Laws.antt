@@ -1,4 +1,4 @@
--- What holds of the definitions themselves.
+-- Properties of the definitions themselves.
 use Rattle.std.specs.Prelude.{◌≡◌, ◌≢◌, ℕ, ◌+◌, ◌^◌, ◌<◌, List, ◌++◌, length, Some, None, Ok}
 use Rattle.std.specs.Prelude.{is_some, not, filter, if◌then◌else◌}
 use Rattle.std.specs.List.{list_any}
@@ -22,22 +22,22 @@ use Rattle.cm_state.specs.Fold.{fold}
 use Rattle.cm_state.specs.Entries.{AreCacheRows, MayFollow, change_of}
 use Rattle.cm_state.specs.Stands.{Arenas, Stands}
 
--- Changes behind others go on from what those came to.
+-- Changes after others continue from the state that those lead to.
 abbrev pub ChangesGoOn : Type 0
 ChangesGoOn = (sizes : Sizes) (m : CacheState) (n : ℕ) (front behind : List (Change ClassFile))
     → fold class_shows sizes m n (front ++ behind)
     ≡ option_and_then (λ (p : CacheState × ℕ). fold class_shows sizes p.0 p.1 behind)
     (fold class_shows sizes m n front)
 
--- Each change has the number after the one before.
+-- Each change has the number after that of the one before.
 abbrev pub NumbersFollow : Type 0
 NumbersFollow =
     (sizes : Sizes) (m : CacheState) (n : ℕ) (changes : List (Change ClassFile)) (last : CacheState)
     (number : ℕ)
     → fold class_shows sizes m n changes ≡ Some (last, number) → number ≡ n + length changes
 
--- What the state of rows holds is found in the rows: loaders by name, classes by name in a loader;
--- and it has as many of these as there are rows, which take as many slots.
+-- What the state of rows holds is found in the rows: loaders by name, classes by name in a loader.
+-- The state has as many of these as there are rows, and they take as many slots.
 abbrev pub LoadersAreFound : Type 0 → Type 0
 LoadersAreFound A =
     (shows : Shows A) (rows : List (Row A)) (name : List ℕ)
@@ -56,9 +56,9 @@ SizesAgree A =
     → (size (state_of shows rows) ≡ length rows)
     × (slots_of_state (state_of shows rows) ≡ slots_of_rows rows)
 
--- Of loaders that go at once exactly theirs is gone: the cache has none of these names then, and
--- under each other name what it had. So it is with rows: those stay whose loader isn't one of
--- these.
+-- If loaders are unloaded at once, exactly these are removed: the cache then has none of these
+-- names, and under each other name what it had. The same holds for rows: those stay whose loader
+-- isn't one of these.
 abbrev pub LoadersGo : Type 0 → Type 0
 LoadersGo A =
     (m : Loaders A) (names : List (List ℕ)) (name : List ℕ)
@@ -71,9 +71,9 @@ RowsGo A =
     → without_loaders loaders rows
     ≡ filter (λ row. not (list_any (λ u. is_of u row) loaders)) rows
 
--- An entry that may follow is a step of the cache: some change that has no cause against it, and
--- the next state is that of the rows after the entry.
-pub record IsStep {A : Type 0} (shows : Shows A) (sizes : Sizes) (n : ℕ) (rows : List (Row A))
+-- An entry that may follow is a step of the cache: there is no cause against its change, and the
+-- next state is that of the rows after the entry.
+pub record EntryIsStep {A : Type 0} (shows : Shows A) (sizes : Sizes) (n : ℕ) (rows : List (Row A))
     (e : Entry A) : Type 0 where
   pub change : Change A
   pub change_is : change_of rows e ≡ Some change
@@ -85,7 +85,7 @@ abbrev pub EntriesAreSteps : Type 0 → Type 0
 EntriesAreSteps A =
     (shows : Shows A) (sizes : Sizes) (n : ℕ) (rows : List (Row A)) (e : Entry A)
     → AreCacheRows shows sizes n rows → MayFollow shows sizes n rows e → n < 2 ^ 63
-    → IsStep shows sizes n rows e
+    → EntryIsStep shows sizes n rows e
 
 -- Contents stand for at most one cache: sizes, state, arenas and number.
 abbrev pub StandForOne : Type 0
@@ -94,8 +94,8 @@ StandForOne =
     → Stands s contents m a n → Stands t contents k b l
     → (s ≡ t) × ((m ≡ k) × ((a ≡ b) × (n ≡ l)))
 
--- Chunks of arenas share no word: none of one loader with one of another, and none with another of
--- its own loader.
+-- Chunks of arenas share no word: neither one of a loader with one of another, nor two of the same
+-- loader.
 pub record ShareNoWord (arenas : Arenas) : Type 0 where
   pub between : (x y : List ℕ) (cs ds : List Chunk) → x ≢ y → map.get arenas x ≡ Some cs
       → map.get arenas y ≡ Some ds → (c d : Chunk) → Among c cs → Among d ds → ¬ Meets c d
@@ -107,7 +107,7 @@ ArenasAreApart =
     (sizes : Sizes) (contents : List ℕ) (m : CacheState) (arenas : Arenas) (n : ℕ)
     → Stands sizes contents m arenas n → ShareNoWord arenas
 
--- The loader of a record has a name, and under it an arena that has the record's chunk.
+-- The loader of a record has a name, and under this name an arena that has the record's chunk.
 pub record IsInItsArena (arenas : Arenas) (rows : List (Row ClassFile))
     (r : ClassRow) : Type 0 where
   pub name : List ℕ

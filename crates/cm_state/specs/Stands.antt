@@ -24,7 +24,7 @@ abbrev pub chunks_of : ℕ → List ClassRow → List Chunk
 chunks_of u rows =
     map_list (λ r. r.place.chunk) (filter (λ r. (r.loader == u) && (r.place.offset == 0)) rows)
 
--- each loader's name, to its chunks
+-- the chunks of each loader, by its name
 abbrev pub Arenas : Type 0
 Arenas = ByName (List Chunk)
 

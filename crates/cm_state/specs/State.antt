@@ -28,7 +28,7 @@ pub record Shows (A : Type 0) : Type 0 where
   pub name : A → List ℕ
   pub words : A → ℕ
 
--- a class itself, and the words of its record
+-- what a class itself shows, and what the words of its record show
 abbrev pub class_shows : Shows ClassFile
 class_shows = record { name = class_name_of; words = λ c. length (lay c) }
 
@@ -43,7 +43,7 @@ CacheState = Loaders ClassFile
 abbrev pub class_in : {A : Type 0} → Loaders A → List ℕ → List ℕ → Option A
 class_in m loader name = option_and_then (λ classes. map.get classes name) (map.get m loader)
 
--- classes, and loaders, each of which counts as much as its name does
+-- the number of classes, plus for each loader what its name counts
 abbrev pub total : {A : Type 0} → (List ℕ → ℕ) → List (List ℕ × ByName A) → ℕ
 total counts [] = 0
 total counts (loader ∷ loaders) = counts loader.0 + map.len loader.1 + total counts loaders
@@ -52,11 +52,11 @@ total counts (loader ∷ loaders) = counts loader.0 + map.len loader.1 + total c
 abbrev pub size : {A : Type 0} → Loaders A → ℕ
 size m = total (λ name. 1) (map.entries m)
 
--- how many slots they take as live rows
+-- how many slots loaders and classes take as live rows
 abbrev pub slots_of_state : {A : Type 0} → Loaders A → ℕ
 slots_of_state m = total slots_of_name (map.entries m)
 
--- ---- of rows
+-- ---- the state of rows
 
 -- the classes of the loader of a number, by name
 abbrev pub classes_of : {A : Type 0} → Shows A → ℕ → List (Row A) → ByName A
@@ -66,7 +66,7 @@ classes_of shows u (Class r c ∷ rows) =
     if r.loader == u then map.insert (classes_of shows u rows) (shows.name c) c
     else classes_of shows u rows
 
--- of these the class of a name, the first one
+-- the first class of a name in the loader of a number
 abbrev pub class_among : {A : Type 0} → Shows A → ℕ → List ℕ → List (Row A) → Option A
 class_among shows u name [] = None
 class_among shows u name (Loader r ∷ rows) = class_among shows u name rows
@@ -74,7 +74,7 @@ class_among shows u name (Class r c ∷ rows) =
     if (r.loader == u) && bytes_eq (shows.name c) name then Some c
     else class_among shows u name rows
 
--- behind these rows no class name stands twice in a loader
+-- after these rows no class name occurs twice in a loader
 abbrev pub NamesDiffer : {A : Type 0} → Shows A → List (Row A) → List (Row A) → Type 0
 NamesDiffer shows before [] = Unit {0}
 NamesDiffer shows before (Loader r ∷ rows) = NamesDiffer shows (before ++ Loader r ∷ []) rows
@@ -82,13 +82,13 @@ NamesDiffer shows before (Class r c ∷ rows) =
     (class_among shows r.loader (shows.name c) before ≡ None)
     × NamesDiffer shows (before ++ Class r c ∷ []) rows
 
--- of each loader among some rows its classes among all of them
+-- for each loader among some rows, its classes among all of them
 abbrev pub loaders_among : {A : Type 0} → Shows A → List (Row A) → List (Row A) → Loaders A
 loaders_among shows all [] = map.empty
 loaders_among shows all (Loader r ∷ rows) =
     map.insert (loaders_among shows all rows) r.name (classes_of shows r.number all)
 loaders_among shows all (Class r c ∷ rows) = loaders_among shows all rows
 
--- the map of rows: each loader's name, to its classes by name
+-- the map of rows: for each loader's name, its classes by name
 abbrev pub state_of : {A : Type 0} → Shows A → List (Row A) → Loaders A
 state_of shows rows = loaders_among shows rows rows

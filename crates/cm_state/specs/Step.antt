@@ -1,6 +1,6 @@
--- One step of the cache: what a change makes of its state, or the first cause against it. Only what
--- the cache holds is spoken of, no chunks, journal or offsets; and of a class only what it shows,
--- so that one definition serves classes and records.
+-- One step of the cache: the state after a change, or the first cause against it. Only what the
+-- cache holds matters, not chunks, journal or offsets; and of a class only what it shows, so that
+-- one definition serves classes and records.
 use Rattle.std.specs.Prelude.{ℕ, ◌^◌, ◌==◌, ◌&&◌, Bool, true, not, nat_lt, nat_le, if◌then◌else◌}
 use Rattle.std.specs.Prelude.{List, [], ◌∷◌, length, is_some}
 use Rattle.std.specs.Prelude.{unwrap_or, Result, Ok, Err}
@@ -14,7 +14,7 @@ use Rattle.cm_layout.specs.Slots.{unload_limit}
 use Rattle.cm_layout.specs.Rules.{is_too_much}
 use Rattle.cm_state.specs.State.{Loaders, Shows, class_in, slots_of_state}
 
--- a change that is asked for, of the loader of a name or of the loaders of several
+-- a requested change, for the loader of a name or for the loaders of several
 pub data Change (A : Type 0) : Type 0 where
   AddLoader : List ℕ → Change A
   Define : List ℕ → A → Change A
@@ -22,7 +22,7 @@ pub data Change (A : Type 0) : Type 0 where
   Tighten : List ℕ → Change A
   UnloadAll : List (List ℕ) → Change A
 
--- why it isn't made
+-- why a change isn't made
 pub data Cause : Type 0 where
   BadName : Cause
   NumbersSpent : Cause
@@ -37,25 +37,25 @@ pub data Cause : Type 0 where
 abbrev pub last_number : ℕ
 last_number = 2 ^ 63
 
--- half of a half's slots are for what lives: none is left for what needs so many
+-- half of a half's slots are for live rows: not enough are left for `need` more
 abbrev pub is_full : {A : Type 0} → Sizes → Loaders A → ℕ → Bool
 is_full sizes m need = is_too_much sizes (slots_of_state m) need
 
--- a loader without classes more
+-- one more loader, without classes
 abbrev pub with_loader : {A : Type 0} → Loaders A → List ℕ → Loaders A
 with_loader m x = map.insert m x map.empty
 
--- a class more, under its name
+-- one more class, under its name
 abbrev pub with_class : {A : Type 0} → Shows A → Loaders A → List ℕ → A → Loaders A
 with_class shows m x c =
     map.insert m x (map.insert (unwrap_or (map.get m x) map.empty) (shows.name c) c)
 
--- no name stands there twice
+-- no name occurs twice
 abbrev pub names_differ : List (List ℕ) → Bool
 names_differ [] = true
 names_differ (x ∷ xs) = list_all (λ y. not (bytes_eq x y)) xs && names_differ xs
 
--- names of loaders that may go at once: one to seven, none of them twice
+-- names of loaders that may be unloaded at once: one to seven, none of them twice
 abbrev pub is_list : List (List ℕ) → Bool
 is_list xs = nat_le 1 (length xs) && nat_le (length xs) unload_limit && names_differ xs
 

@@ -1,4 +1,4 @@
-//! The cache without chunks or journal: its state, its steps, and what contents stand for it.
+//! The cache without chunks or journal: its state, its steps, and which contents stand for it.
 #![tactic(auto)]
 
 mod laws;

@@ -1,4 +1,4 @@
--- Four bytes of a length, there and back.
+-- Four bytes of a length, written and read back.
 -- For `classes_in`, `split`.
 use Rattle.std.proofs.Common.{◌≡◌, ℕ, ◌+◌, ◌^◌, ◌<◌, ◌≤◌, Bool, true, false, cond, ltb, List, ◌++◌}
 use Rattle.std.proofs.Common.{length, get_or, take, drop, Some, None, refl, sym, ap, arith, inl}
@@ -24,18 +24,18 @@ IsBytes-take n bytes h i =
           (omega arith)
     ]
 
--- a test that let a value through
+-- a test that passed a value
 pub let_through : {A : Type 0} (b : Bool) (x y : A) → cond b None (Some x) ≡ Some y
     → (b ≡ false) × (x ≡ y)
 let_through true x y e = absurd cc
 let_through false x y e = (refl, cc)
 
--- a test that let nothing through
+-- a test that rejected a value
 pub held_back : {A : Type 0} (b : Bool) (x : A) → cond b None (Some x) ≡ None → b ≡ true
 held_back true x e = refl
 held_back false x e = absurd cc
 
--- What holds of a width that is read and written.
+-- What holds for a width that is written and read.
 pub record IsWide (w : Width) (limit : ℕ) : Type 0 where
   pub len : (n : ℕ) → length (to_be_bytes w n) ≡ byte_len w
   pub back : (bytes : List ℕ) → length bytes ≡ byte_len w → IsBytes bytes
@@ -51,7 +51,7 @@ wide32 = record {
   below = λ bytes fits. omega (arith, fits 0, fits 1, fits 2, fits 3);
 }
 
--- what was read of a number
+-- what is known of a number that was read
 pub record TakesNumber (w : Width) (limit : ℕ) (bytes : List ℕ) (n : ℕ)
     (rest : List ℕ) : Type 0 where
   pub parts : bytes ≡ to_be_bytes w n ++ rest

@@ -10,8 +10,9 @@ use Rattle.std.proofs.lemmas.List.{take_at, drop_at, take-append-drop, length-ap
 use Rattle.std.proofs.lemmas.List.{length-drop, append-nil, flat_map_more}
 use Rattle.std.proofs.lemmas.List.Concat.{flat_map-cons}
 use Rattle.std.proofs.lemmas.Option.{option_and_then_some, some_pair_parts}
-use Rattle.cm_stream.specs.Stream.{frame, stream_of, Fits, AllFit, EndsInClass, number_at, piece_at}
-use Rattle.cm_stream.specs.Stream.{first_at, EndsEarly, IsFault, GivesClasses}
+use Rattle.cm_stream.specs.Stream.{frame, stream_of, FitsStream, AllFit, EndsInClass, number_at}
+use Rattle.cm_stream.specs.Stream.{piece_at}
+use Rattle.cm_stream.specs.Stream.{first_at, EndsEarly, IsStreamFault, GivesClasses}
 use Rattle.cm_stream.specs.declared.stream.StreamFault.{StreamFault}
 use Rattle.cm_stream.specs.declared.stream.StreamFault.TheVariants.{InLength, InClass, NoMemory}
 use Rattle.cm_stream.proofs.Numbers.{IsBytes, IsBytes-drop, let_through, held_back, wide32}
@@ -21,7 +22,7 @@ use Rattle.cm_stream.proofs.Numbers.{number_long}
 -- a class that was read from the front of a stream
 pub record TakesClass (bytes class behind : List ℕ) : Type 0 where
   pub parts : bytes ≡ frame class ++ behind
-  pub fits : Fits class
+  pub fits : FitsStream class
   pub shorter : length behind < length bytes
 
 piece_takes : (bytes : List ℕ) (n : ℕ) (rest : List ℕ) → TakesNumber w32 (2 ^ 32) bytes n rest
@@ -50,7 +51,7 @@ first_takes bytes class behind fits e =
     piece_takes bytes n.0 n.1 (number_takes w32 (2 ^ 32) wide32 bytes n.0 n.1 fits read) class
     behind then)
 
-pub first_again : (class rest : List ℕ) → Fits class
+pub first_again : (class rest : List ℕ) → FitsStream class
     → first_at (frame class ++ rest) ≡ Some (class, rest)
 unfolding first_at
 first_again class rest fits =
@@ -91,12 +92,12 @@ ends_in_class rest h =
 
 -- ---- one class after another
 
-all_fit_push : (front : List (List ℕ)) (class : List ℕ) → AllFit front → Fits class
+all_fit_push : (front : List (List ℕ)) (class : List ℕ) → AllFit front → FitsStream class
     → AllFit (front ++ class ∷ [])
 all_fit_push [] class all fits = (fits, tt)
 all_fit_push (c ∷ cs) class all fits = (all.0, all_fit_push cs class all.1 fits)
 
--- what is known of the classes so far and the rest
+-- what is known of the classes so far and the bytes that are left
 pub record Split (bytes : List ℕ) (front : List (List ℕ)) (rest : List ℕ) : Type 0 where
   pub fit : AllFit front
   pub whole : bytes ≡ stream_of front ++ rest
@@ -158,7 +159,7 @@ one_split (a ∷ xs) (b ∷ ys) rest fit fits e none =
     (ap (λ (c : List ℕ). c ∷ xs) same.0 ∙ ap (λ (cs : List (List ℕ)). b ∷ cs) others.0, others.1)
 
 pub only_memory : (bytes : List ℕ) (classes : List (List ℕ)) (fault : StreamFault) → AllFit classes
-    → bytes ≡ stream_of classes → IsFault bytes fault → fault ≡ NoMemory
+    → bytes ≡ stream_of classes → IsStreamFault bytes fault → fault ≡ NoMemory
 only_memory bytes classes (InLength at) fit e h =
     let same = one_split classes h.classes h.rest fit h.fit (sym e ∙ h.whole)
     (ends_in_length h.rest h.early.1) in
@@ -180,7 +181,7 @@ only_these bytes found classes fit e fits g =
 pub answered : {X : Type 0} (view : X → List (List ℕ)) (bytes : List ℕ)
     (result : Result X StreamFault)
     → IfOk result (λ v. AllFit (view v) × (bytes ≡ stream_of (view v)))
-    → IfErr result (IsFault bytes)
+    → IfErr result (IsStreamFault bytes)
     → (classes : List (List ℕ)) → AllFit classes → bytes ≡ stream_of classes
     → GivesClasses view classes result
 answered view bytes (Ok v) ok fault classes fit e =

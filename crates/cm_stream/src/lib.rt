@@ -1,4 +1,4 @@
-//! Streams of class files: one behind another, each behind its length.
+//! Streams of class files: one after another, each preceded by its length.
 #![tactic(auto)]
 
 mod reading;

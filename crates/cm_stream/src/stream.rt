@@ -1,6 +1,7 @@
-//! Class files one behind another, each behind its length.
+//! Class files one after another, each preceded by its length.
 ghost use Rattle.std.specs.Prelude.{◌≡◌, ◌≤◌, ◌<◌, List, ℕ, length, map, option_map, IfOk, IfErr};
-ghost use Rattle.cm_stream.specs.Stream.{stream_of, AllFit, IsFault, GivesClasses, EndsInLength};
+ghost use Rattle.cm_stream.specs.Stream.{stream_of, AllFit, IsStreamFault, GivesClasses};
+ghost use Rattle.cm_stream.specs.Stream.{EndsInLength};
 ghost use Rattle.cm_stream.specs.Stream.{EndsInClass, first_at};
 ghost use Rattle.cm_stream.specs.declared.stream.StreamFault.TheVariants.{NoMemory};
 
@@ -11,7 +12,7 @@ use thiserror::Error;
 /// How many bytes a length takes.
 const LENGTH: usize = 4;
 
-/// Why bytes are no stream of classes. Places count bytes from 0.
+/// Why bytes are no stream of classes. Places are byte offsets from 0.
 #[derive(Clone, Copy, Debug, PartialEq, Eq, Error)]
 pub enum StreamFault {
     /// The stream ends inside the length that begins here.
@@ -41,8 +42,8 @@ impl<T: Drop> From<AllocFailed<T>> for StreamFault {
     }
 }
 
-/// The class at the front of a stream, and what is behind it; none where the stream ends before it
-/// does.
+/// The class at the front of a stream, and the bytes after it; `None` if the stream ends before the
+/// class does.
 #[tactic(auto, unfolding(crate::specs::Stream::first_at))]
 fn first_class(bytes: &[u8]) -> Option<(&[u8], &[u8])>
     ensures { option_map (λ x. (x.0.now, x.1.now)) result ≡ first_at bytes.now }
@@ -58,7 +59,7 @@ fn first_class(bytes: &[u8]) -> Option<(&[u8], &[u8])>
     Some(rest.split_at(length))
 }
 
-/// Why no class begins at a place, where so many bytes are left.
+/// Why no class begins at a place, if this many bytes are left.
 fn fault_at(at: usize, left: usize) -> StreamFault
     ensures length { left < 4 → result ≡ StreamFault.InLength at }
     ensures class { 4 ≤ left → result ≡ StreamFault.InClass at }
@@ -75,7 +76,7 @@ fn split(alloc: Global, bytes: &[u8]) -> Result<Vec<&[u8]>, StreamFault>
     ensures ok { IfOk result
         (λ v. AllFit (map (λ class. class.now) v.items)
         × (bytes.now ≡ stream_of (map (λ class. class.now) v.items))) }
-    ensures fault { IfErr result (IsFault bytes.now) }
+    ensures fault { IfErr result (IsStreamFault bytes.now) }
 {
     let mut classes = Vec::new(alloc);
     let mut rest = bytes;
@@ -89,18 +90,17 @@ fn split(alloc: Global, bytes: &[u8]) -> Result<Vec<&[u8]>, StreamFault>
     Ok(classes)
 }
 
-/// The class files of a stream, each of which stands behind its length (four bytes, big-endian).
-/// They are not copied, so a false length asks for no memory.
+/// The class files of a stream, each preceded by its length (four bytes, big-endian). They are not
+/// copied, so a false length doesn't cause an allocation.
 ///
-/// It is refused exactly where the stream ends inside a length or inside a class, or with
-/// `NoMemory`.
+/// Fails exactly if the stream ends inside a length or inside a class, or with `NoMemory`.
 pub fn classes_in(alloc: Global, bytes: &[u8]) -> Result<Vec<&[u8]>, StreamFault>
     ensures ok { IfOk result
         (λ v. AllFit (map (λ class. class.now) v.items)
         × (bytes.now ≡ stream_of (map (λ class. class.now) v.items))) }
-    ensures fault { IfErr result (IsFault bytes.now) }
+    ensures fault { IfErr result (IsStreamFault bytes.now) }
 
-    // The stream of any classes is answered with these, unless an allocation failed.
+    // For a stream of some classes the result is these, unless an allocation failed.
     ensures only { (classes : List (List ℕ)) → AllFit classes → bytes.now ≡ stream_of classes
         → GivesClasses (λ v. map (λ class. class.now) v.items) classes result }
 {

@@ -1,4 +1,4 @@
--- Replies to lines, from what the cache answered.
+-- Replies to lines, from the results of the cache.
 -- For `answer`, `define`.
 use Rattle.std.proofs.Common.{◌≡◌, inr, ℕ, List, Option, Some, None, refl, sym}
 use Rattle.std.proofs.Common.{subst, ap, ◌∙◌}
@@ -7,8 +7,8 @@ use Rattle.std.specs.Option.{option_map}
 use Rattle.hex.specs.declared.error.FromHexError.{FromHexError}
 use Rattle.cm_record.specs.Names.{class_name_in}
 use Rattle.cm_state.specs.Step.{Change, Define}
-use Rattle.cm_prepare.specs.declared.refusal.Refusal.{Refusal}
-use Rattle.cm_cache.specs.Shared.{PassState, Tells}
+use Rattle.cm_commands.specs.declared.refusal.Refusal.{Refusal}
+use Rattle.cm_cache.specs.Shared.{PassState, ReportsChange}
 use Rattle.cm_lines.specs.declared.line.Line.{Line}
 use Rattle.cm_lines.specs.Lines.{Asked, seen}
 use Rattle.cm_tool.specs.declared.reply.Reply.{Reply}
@@ -18,7 +18,7 @@ use Rattle.cm_tool.specs.Ahead.{AreWordsOf}
 use Rattle.cm_tool.specs.Calls.{reply_to, RepliesTo, IsUnasked, RepliesToDefine}
 use Rattle.cm_tool.specs.Calls.{RepliesToAsked}
 
--- some text is replied, of which this holds
+-- some text is the reply, of which this holds
 abbrev pub Replied : {E : Type 0} → Result Reply E → (ReplyText → Type 0) → Type 0
 Replied result Holds = IfOk result (λ reply. (given : ReplyText) × IsReply given reply × Holds
     given)
@@ -32,7 +32,7 @@ replied given Holds (Err e) is holds = tt
 -- ---- commands
 
 pub told : {E : Type 0} (change : Change (List ℕ)) (says : ℕ → ReplyText) (old new : PassState)
-    (stored : Result ℕ Refusal) (result : Result Reply E) → Tells old change stored new
+    (stored : Result ℕ Refusal) (result : Result Reply E) → ReportsChange old change stored new
     → IfOk result (IsReply (reply_to says stored))
     → Replied result (λ given. RepliesTo change says old given new)
 told change says old new stored result tells is =
@@ -50,7 +50,7 @@ module _ {E : Type 0} (loader : List ℕ) (decoded : Result (List ℕ) FromHexEr
     (old new : PassState) (result : Result Reply E) where
   pub defined : (bytes words name : List ℕ) → decoded ≡ Ok bytes → AreWordsOf bytes words
       → name ≡ class_name_in words → (stored : Result ℕ Refusal)
-      → Tells old (Define loader words) stored new
+      → ReportsChange old (Define loader words) stored new
       → IfOk result (IsReply (reply_to (λ n. defined_reply n name) stored))
       → Replied result (λ given. RepliesToDefine loader decoded old given new)
   defined bytes words name is words_are named stored tells says =
@@ -60,17 +60,17 @@ module _ {E : Type 0} (loader : List ℕ) (decoded : Result (List ℕ) FromHexEr
       (subst (λ x. IfOk result (IsReply (reply_to (λ n. defined_reply n x) stored))) named says)
       (inr (words, words_are, record { answer = stored; tells = tells; reply = refl })))
 
--- ---- what the line asks for
+-- ---- a line's request
 
-pub asks : (question : Option Line) (l : Line) (asked : Option Asked)
-    → option_map seen question ≡ asked → question ≡ Some l → Some (seen l) ≡ asked
-asks question l asked says is = ap (option_map seen) (sym is) ∙ says
+pub asks : (request : Option Line) (l : Line) (asked : Option Asked)
+    → option_map seen request ≡ asked → request ≡ Some l → Some (seen l) ≡ asked
+asks request l asked says is = ap (option_map seen) (sym is) ∙ says
 
-pub asks_nothing : (question : Option Line) (asked : Option Asked)
-    → option_map seen question ≡ asked → question ≡ None → None ≡ asked
-asks_nothing question asked says is = ap (option_map seen) (sym is) ∙ says
+pub asks_nothing : (request : Option Line) (asked : Option Asked)
+    → option_map seen request ≡ asked → request ≡ None → None ≡ asked
+asks_nothing request asked says is = ap (option_map seen) (sym is) ∙ says
 
--- the reply to what is asked is that to the line
+-- the reply to the request is that to the line
 pub of_line : {E : Type 0} (asked known : Option Asked) (old new : PassState)
     (result : Result Reply E) → known ≡ asked
     → Replied result (λ given. RepliesToAsked known old given new)

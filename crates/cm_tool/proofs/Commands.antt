@@ -1,4 +1,4 @@
--- From what a session answers to a command to what is replied.
+-- From a session's result for a command to the reply.
 -- For `answer_number`, `answer`, `define` and others.
 use Rattle.std.proofs.Common.{◌≡◌, ◌≤◌, ◌⊎◌, ℕ, Bool, true, false, List, length, Option, Some, None}
 use Rattle.std.proofs.Common.{Result, Ok, Err, IfOk, OnOk, inl, inr, refl, sym, ap, subst, ◌∙◌}
@@ -13,18 +13,18 @@ use Rattle.cm_pool.specs.Geometry.{Sizes}
 use Rattle.cm_guards.specs.Calls.{LeavesOnly}
 use Rattle.cm_record.specs.Layout.{lay, limit, IsRecord, IsRecordOf}
 use Rattle.cm_record.specs.Names.{class_name_of, class_name_in}
-use Rattle.cm_rules.specs.Answer.{IsRight}
+use Rattle.cm_rules.specs.Answer.{SpellsRightClass}
 use Rattle.cm_state.specs.Step.{Change, AddLoader, Define, Unload, Tighten, UnloadAll}
-use Rattle.cm_prepare.specs.declared.refusal.Refusal.{Refusal}
-use Rattle.cm_prepare.specs.declared.refusal.Refusal.TheVariants as refusal
-use Rattle.cm_prepare.specs.Prepare.{IsUnprepared}
-use Rattle.cm_prepare.specs.Names.{names_kept}
-use Rattle.cm_machine.specs.Machine.{Machine, Asks, Refuses}
-use Rattle.cm_machine.specs.Laws.{Finds}
+use Rattle.cm_commands.specs.declared.refusal.Refusal.{Refusal}
+use Rattle.cm_commands.specs.declared.refusal.Refusal.TheVariants as refusal
+use Rattle.cm_commands.specs.Prepare.{IsUnprepared}
+use Rattle.cm_commands.specs.Names.{names_kept}
+use Rattle.cm_commands.specs.Machine.{Machine, Asks, Refuses}
+use Rattle.cm_handover.specs.Laws.{Finds}
 use Rattle.cm_session.specs.declared.session.Session.{Session}
 use Rattle.cm_session.specs.declared.storing.NotStored.{NotStored}
 use Rattle.cm_session.specs.declared.storing.NotStored.TheVariants.{Refused, Unsure}
-use Rattle.cm_session.specs.Moves.{GoesWith}
+use Rattle.cm_session.specs.Moves.{SessionMatches}
 use Rattle.cm_session.specs.Storing.{Storing, Stores, FailsOnly, MakesNoCall}
 use Rattle.cm_lines.specs.Escapes.{unescaped}
 use Rattle.cm_lines.specs.Lines.{Asked, AsksLoader, AsksUnload, AsksTighten, AsksDefine, AsksFind}
@@ -35,50 +35,51 @@ use Rattle.cm_tool.specs.Texts.{refusal_reply, unsure_reply, bad_line_reply}
 use Rattle.cm_tool.specs.Replies.{IsReply}
 use Rattle.cm_tool.specs.Answers.{Served, served, AnswersCommand, AnswersAsked, AnswersDefine}
 use Rattle.cm_tool.specs.Answers.{AnswersFind}
-use Rattle.cm_tool.specs.Serving.{IsReady, LedTo, MayGoOn, IsLeft, IsAskedBy, Replies, Tells}
+use Rattle.cm_tool.specs.Serving.{IsReady, ReachesServed, MayProgress, RestsAfter, IsAskedBy}
+use Rattle.cm_tool.specs.Serving.{Replies, ReportsStored}
 use Rattle.cm_tool.proofs.Moments.{stored_goes_on}
 
 -- ---- lines that change nothing
 
 -- a reply that changes nothing
-pub replies_same : {E : Type 0} (sizes : Sizes) (question : Option Asked) (k : Machine)
+pub replies_same : {E : Type 0} (sizes : Sizes) (request : Option Asked) (k : Machine)
     (failures : ℕ) (given : ReplyText) (result : Result Reply E)
     → IsReady k → IfOk result (IsReply given)
-    → AnswersAsked sizes question (served k failures) given (served k failures)
-    → Replies sizes question result (served k failures) (served k failures)
-replies_same sizes question k failures given (Ok reply) ready says answers =
+    → AnswersAsked sizes request (served k failures) given (served k failures)
+    → Replies sizes request result (served k failures) (served k failures)
+replies_same sizes request k failures given (Ok reply) ready says answers =
     (given, says, answers, record { rest = ready.rest; works = λ sure. ready.works })
-replies_same sizes question k failures given (Err e) ready says answers = inl refl
+replies_same sizes request k failures given (Err e) ready says answers = inl refl
 
 -- the session stays with its machine
-pub stays : {Does : Served → Type 0} {Goes : Machine → Type 0} (k : Machine) (failures : ℕ)
-    → Does (served k failures) → Goes k → LedTo Does failures Goes
-stays k failures does goes = record { next = k; does = does; goes = goes }
+pub stays : {Does : Served → Type 0} {Matching : Machine → Type 0} (k : Machine) (failures : ℕ)
+    → Does (served k failures) → Matching k → ReachesServed Does failures Matching
+stays k failures does matches = record { next = k; does = does; matches = matches }
 
 -- ---- commands
 
--- a question asks for the changes that a command asks for, and is answered as they are
+-- a request requests the changes that a command requests, and has their replies
 abbrev pub Fits : Sizes → Option Asked → (ℕ → ReplyText) → Change (List ℕ) → Type 0
-Fits sizes question told asked =
+Fits sizes request told asked =
     (change : Change ClassFile) → Asks asked change → (old : Served) (given : ReplyText)
     (new : Served) → AnswersCommand sizes change told old given new
-    → AnswersAsked sizes question old given new
+    → AnswersAsked sizes request old given new
 
--- of the one change that a command asks for, where the question is answered by its number
-of_one : (sizes : Sizes) (question : Asked) (asked : Change (List ℕ)) (one : Change ClassFile)
+-- the one change that a command requests, if the reply is its number
+of_one : (sizes : Sizes) (request : Asked) (asked : Change (List ℕ)) (one : Change ClassFile)
     → ((change : Change ClassFile) → Asks asked change → change ≡ one)
     → ((old : Served) (given : ReplyText) (new : Served)
     → AnswersCommand sizes one number_reply old given new
-    → AnswersAsked sizes (Some question) old given new)
-    → Fits sizes (Some question) number_reply asked
-of_one sizes question asked one only answers change asks old given new h =
+    → AnswersAsked sizes (Some request) old given new)
+    → Fits sizes (Some request) number_reply asked
+of_one sizes request asked one only answers change asks old given new h =
     answers old given new
     (subst (λ (d : Change ClassFile). AnswersCommand sizes d number_reply old given new)
     (only change asks) h)
 
--- a question that asks for a command is answered by the command's number
-pub number_fits : (sizes : Sizes) (question : Asked) (asked : Change (List ℕ))
-    → IsAskedBy question asked → Fits sizes (Some question) number_reply asked
+-- a request for a command has the command's number as its reply
+pub number_fits : (sizes : Sizes) (request : Asked) (asked : Change (List ℕ))
+    → IsAskedBy request asked → Fits sizes (Some request) number_reply asked
 number_fits sizes (AsksLoader name) asked is =
     subst (Fits sizes (Some (AsksLoader name)) number_reply) (sym is)
     (of_one sizes (AsksLoader name) (AddLoader name) (AddLoader name) (λ change asks. asks)
@@ -104,9 +105,10 @@ abbrev pub LayIsOne : Type 0
 LayIsOne = (c d : ClassFile) → HasSpelling c → HasSpelling d → lay c ≡ lay d → c ≡ d
 
 module _ (one : LayIsOne) (sizes : Sizes) (loader digits bytes words name : List ℕ) (c : ClassFile)
-    (decoded : decode_of digits ≡ Ok bytes) (right : IsRight bytes c) (words_are : words ≡ lay c)
+    (decoded : decode_of digits ≡ Ok bytes) (right : SpellsRightClass bytes c) (words_are : words
+    ≡ lay c)
     (name_is : length (lay c) ≤ limit → name ≡ class_name_of c) where
-  -- the class that is asked for is that of the bytes
+  -- the requested class is that of the bytes
   its_class : (d : ClassFile) → HasSpelling d → lay d ≡ words → d ≡ c
   its_class d spelled laid = one d c spelled right.spelled.fits (laid ∙ words_are)
 
@@ -138,12 +140,12 @@ module _ (one : LayIsOne) (sizes : Sizes) (loader digits bytes words name : List
             (its_change change asks) h);
       }))
 
--- a record's words tell the name of its class
+-- a record's words give the name of its class
 abbrev pub TellName : Type 0
 TellName =
     (c : ClassFile) (words : List ℕ) → IsRecordOf c words → class_name_in words ≡ class_name_of c
 
-pub class_named : (bytes words : List ℕ) (c : ClassFile) → TellName → IsRight bytes c
+pub class_named : (bytes words : List ℕ) (c : ClassFile) → TellName → SpellsRightClass bytes c
     → words ≡ lay c
     → length (lay c) ≤ limit → class_name_in words ≡ class_name_of c
 class_named bytes words c tell right laid short =
@@ -162,7 +164,7 @@ answers_fault sizes loader digits bytes refusal old decoded unprepared =
     subst (λ r. AnswersDefine sizes loader r old (refusal_reply refusal) old) (sym decoded)
     (inl (record { refusal = refusal; unprepared = unprepared; reply = refl; same = refl }))
 
--- digits that aren't read, though memory was there
+-- digits that can't be read, though no allocation failed
 pub not_memory : (digits : List ℕ) (e : FromHexError) (is : Bool) → (e ≡ OutOfMemory → is ≡ true)
     → is ≡ false → (e ≡ OutOfMemory) ⊎ (decode_of digits ≡ Err e) → decode_of digits ≡ Err e
 not_memory digits e is whenever never (inl memory) = let yes = whenever memory in absurd (cc)
@@ -175,11 +177,11 @@ pub answers_bad_digits : (sizes : Sizes) (loader digits : List ℕ) (e : FromHex
 answers_bad_digits sizes loader digits e old decoded =
     subst (λ r. AnswersDefine sizes loader r old bad_line_reply old) (sym decoded) (refl, refl)
 
--- ---- what is stored
+-- ---- a command that is stored
 
-module _ (sizes : Sizes) (question : Option Asked) (told : ℕ → ReplyText) (k : Machine)
+module _ (sizes : Sizes) (request : Option Asked) (told : ℕ → ReplyText) (k : Machine)
     (asked : Change (List ℕ)) (Moments : (List ℕ → Type 0) → Type 0) (before now : ℕ)
-    (ready : IsReady k) (fits : Fits sizes question told asked) (change : Change ClassFile)
+    (ready : IsReady k) (fits : Fits sizes request told asked) (change : Change ClassFile)
     (asks : Asks asked change) (next : Machine) where
   abbrev old : Served
   old = served k before
@@ -187,18 +189,18 @@ module _ (sizes : Sizes) (question : Option Asked) (told : ℕ → ReplyText) (k
   abbrev new : Served
   new = served next now
 
-  -- the reply, or that no memory was there for it
+  -- the reply, unless an allocation for it failed
   replied : {E : Type 0} (given : ReplyText) (result : Result Reply E) → IfOk result (IsReply given)
-      → AnswersCommand sizes change told old given new → IsLeft given next
-      → Replies sizes question result old new
+      → AnswersCommand sizes change told old given new → RestsAfter given next
+      → Replies sizes request result old new
   replied given (Ok reply) says h left =
       (given, says, fits change asks old given new h, left)
   replied given (Err e) says h left = inr (given, fits change asks old given new h)
 
   was_stored : {E : Type 0} (number : ℕ) (result : Result Reply E)
       → Stores sizes k change Moments (Ok number) next
-      → FailsOnly before now (Ok number) → Tells told (Ok number) result
-      → Replies sizes question result old new
+      → FailsOnly before now (Ok number) → ReportsStored told (Ok number) result
+      → Replies sizes request result old new
   was_stored number result s fails says =
       let hands = s.1 in
       let machine_is = s.2 ∙ ap (λ (m : Machine). record m { acknowledged = number })
@@ -218,13 +220,13 @@ module _ (sizes : Sizes) (question : Option Asked) (told : ℕ → ReplyText) (k
 
   was_refused : {E : Type 0} (r : Refusal) (result : Result Reply E)
       → Stores sizes k change Moments (Err (Refused r)) next
-      → now ≡ before → Tells told (Err (Refused r)) result
-      → Replies sizes question result old new
+      → now ≡ before → ReportsStored told (Err (Refused r)) result
+      → Replies sizes request result old new
   was_refused r result s same says = by s.0.1
     where
       by : ((k.noticed ≡ true) × (r ≡ refusal.Broken))
           ⊎ ((k.noticed ≡ false) × Refuses sizes k change r)
-          → Replies sizes question result old new
+          → Replies sizes request result old new
       by (inl noticed) =
           let no = sym noticed.0 ∙ ready.rest.noticed ∙ ready.works in absurd (cc)
       by (inr refuses) =
@@ -242,8 +244,8 @@ module _ (sizes : Sizes) (question : Option Asked) (told : ℕ → ReplyText) (k
 
   was_lost : {E : Type 0} (number : ℕ) (result : Result Reply E)
       → Stores sizes k change Moments (Err (Unsure number)) next
-      → FailsOnly before now (Err (Unsure number)) → Tells told (Err (Unsure number)) result
-      → Replies sizes question result old new
+      → FailsOnly before now (Err (Unsure number)) → ReportsStored told (Err (Unsure number)) result
+      → Replies sizes request result old new
   was_lost number result s fails says =
       let hands = s.1 in
       replied (unsure_reply number) result says
@@ -260,37 +262,37 @@ module _ (sizes : Sizes) (question : Option Asked) (told : ℕ → ReplyText) (k
 
   pub store_replies : {E : Type 0} (stored : Result ℕ NotStored) (result : Result Reply E)
       → Stores sizes k change Moments stored next → FailsOnly before now stored
-      → (MakesNoCall stored → now ≡ before) → Tells told stored result
-      → Replies sizes question result old new
+      → (MakesNoCall stored → now ≡ before) → ReportsStored told stored result
+      → Replies sizes request result old new
   store_replies (Ok number) result s fails same says = was_stored number result s fails says
   store_replies (Err (Refused r)) result s fails same says = was_refused r result s (same tt) says
   store_replies (Err (Unsure n)) result s fails same says = was_lost n result s fails says
 
 module _ {D : Type 0} (view : View D) where
-  pub command_replies : {E : Type 0} (question : Option Asked) (told : ℕ → ReplyText) (k : Machine)
+  pub command_replies : {E : Type 0} (request : Option Asked) (told : ℕ → ReplyText) (k : Machine)
       (asked : Change (List ℕ)) (before now : ℕ) (old new : Session D)
       (stored : Result ℕ NotStored) (result : Result Reply E)
-      → IsReady k → Fits old.committer.sizes question told asked
+      → IsReady k → Fits old.committer.sizes request told asked
       → Storing old.committer.sizes k asked
       (LeavesOnly view old.committer.disk new.committer.disk) stored
-      (λ next. GoesWith next new)
+      (λ next. SessionMatches next new)
       → FailsOnly before now stored → (MakesNoCall stored → now ≡ before)
-      → (MakesNoCall stored → new.committer ≡ old.committer) → Tells told stored result
-      → LedTo (Replies old.committer.sizes question result (served k before)) now
-      (MayGoOn view k old new)
-  command_replies question told k asked before now old new stored result ready fits s
+      → (MakesNoCall stored → new.committer ≡ old.committer) → ReportsStored told stored result
+      → ReachesServed (Replies old.committer.sizes request result (served k before)) now
+      (MayProgress view k old new)
+  command_replies request told k asked before now old new stored result ready fits s
       fails same none
       says =
       record {
-        next = s.leads.next;
-        does = store_replies old.committer.sizes question told k asked
+        next = s.reaches.next;
+        does = store_replies old.committer.sizes request told k asked
             (LeavesOnly view old.committer.disk new.committer.disk) before now ready
-            fits s.change s.asks s.leads.next stored result s.leads.does fails same says;
-        goes = stored_goes_on view k s.leads.next old new s.change ready s.leads.goes
-            stored s.leads.does none;
+            fits s.change s.asks s.reaches.next stored result s.reaches.does fails same says;
+        matches = stored_goes_on view k s.reaches.next old new s.change ready s.reaches.matches
+            stored s.reaches.does none;
       }
 
--- ---- looking up
+-- ---- lookup
 
 pub finds_none : (sizes : Sizes) (loader word name : List ℕ) (k : Machine) (failures : ℕ)
     → unescaped word ≡ Some name → Finds sizes k loader name None

@@ -14,7 +14,7 @@ use Rattle.cm_tool.specs.declared.script.Outcome.{Outcome}
 use Rattle.cm_tool.specs.Serving.{Medium, LeavesOpening}
 use Rattle.cm_tool.specs.Threads.{LeavesRun, RunsInThreads, IsSureWithout, base_in}
 
--- a run is unsure only where a pass is marked, and no pass is where the disk works
+-- a run is unsure only if a pass is marked, and no pass is marked if the disk works
 pub sure_without : {E D : Type 0} (failures : D → ℕ) (d : D) (failed : ℕ) (passes : List PassState)
     (result : Result Outcome E)
     → (failures d ≡ failed → All (λ (p : PassState). p.marked ≡ false) passes)

@@ -1,4 +1,4 @@
--- What a crash leaves on the way through a line.
+-- What a crash leaves in the course of a line.
 -- For `answer`, `define`, `define_bytes` and others.
 use Rattle.std.proofs.Common.{◌≡◌, ◌≤◌, ◌⊎◌, ℕ, Bool, true, List, Result, Ok, Err, inl, inr, refl}
 use Rattle.std.proofs.Common.{sym, ◌∙◌, ap, subst, arith}
@@ -10,17 +10,18 @@ use Rattle.cm_guards.specs.Calls.{LeavesOnly}
 use Rattle.cm_guards.proofs.{leaves_none, leaves_more}
 use Rattle.cm_state.specs.Step.{Change}
 use Rattle.cm_commit.specs.States.{CommitterState}
-use Rattle.cm_machine.specs.Machine.{Machine}
+use Rattle.cm_commands.specs.Machine.{Machine}
 use Rattle.cm_session.specs.declared.session.Session.{Session}
 use Rattle.cm_session.specs.declared.storing.NotStored.{NotStored}
 use Rattle.cm_session.specs.declared.storing.NotStored.TheVariants.{Refused, Unsure}
 use Rattle.cm_session.specs.Images.{StandsForSome}
-use Rattle.cm_session.specs.Moves.{GoesWith}
+use Rattle.cm_session.specs.Moves.{SessionMatches}
 use Rattle.cm_session.specs.Storing.{Hands, Stores, MakesNoCall}
 use Rattle.cm_tool.specs.Answers.{StandsBetween}
-use Rattle.cm_tool.specs.Serving.{IsReady, MayGoOn}
+use Rattle.cm_tool.specs.Serving.{IsReady, MayProgress}
 
--- what stands for a machine's commands does so whatever is acknowledged of them, or has failed
+-- what stands for a machine's commands does so however many are acknowledged, and whether or not
+-- the device failed
 between_kept : (sizes : Sizes) (k handed : Machine) (acknowledged : ℕ) (failed noticed : Bool)
     (image : List ℕ) → StandsBetween sizes k handed image
     → StandsBetween sizes k
@@ -51,12 +52,12 @@ between_some sizes k next image less s = record {
 
 module _ {D : Type 0} (view : View D) where
   -- nothing was done
-  pub still : (k : Machine) (s : Session D) → GoesWith k s → MayGoOn view k s s k
-  still k s goes = record { goes = goes; no_less = omega arith; moments = inl refl }
+  pub still : (k : Machine) (s : Session D) → SessionMatches k s → MayProgress view k s s k
+  still k s matches = record { matches = matches; no_less = omega arith; moments = inl refl }
 
   -- a command was stored, or not
   module _ (k next : Machine) (old new : Session D) (change : Change ClassFile)
-      (ready : IsReady k) (goes : GoesWith next new) where
+      (ready : IsReady k) (matches : SessionMatches next new) where
     abbrev sizes : Sizes
     sizes = old.committer.sizes
 
@@ -82,13 +83,13 @@ module _ {D : Type 0} (view : View D) where
 
     pub stored_goes_on : (stored : Result ℕ NotStored) → Stores sizes k change Leaves stored next
         → (MakesNoCall stored → new.committer ≡ old.committer)
-        → MayGoOn view k old new next
+        → MayProgress view k old new next
     stored_goes_on (Ok number) s none =
         let number_is = s.1.answers.1.number_is in
         let before = ready.rest.stored ready.works in
         let acknowledged = ap (λ (m : Machine). m.acknowledged) s.2 in
         record {
-          goes = goes;
+          matches = matches;
           no_less = omega (arith, number_is, before, acknowledged);
           moments = inr (handed_leaves number s.0 s.1 (λ image b.
               subst (λ m. StandsBetween sizes k m image) (sym s.2)
@@ -97,26 +98,26 @@ module _ {D : Type 0} (view : View D) where
     stored_goes_on (Err (Refused r)) s none =
         let same = ap (λ (m : Machine). m.acknowledged) s.0.0 in
         record {
-          goes = goes;
+          matches = matches;
           no_less = omega (arith, same);
           moments = inl (ap (λ (c : CommitterState D). c.disk) (none tt));
         }
     stored_goes_on (Err (Unsure number)) s none =
         let same = ap (λ (m : Machine). m.acknowledged) s.2 ∙ handed_ack number s.0 s.1 in
         record {
-          goes = goes;
+          matches = matches;
           no_less = omega (arith, same);
           moments = inr (handed_leaves number s.0 s.1 (λ image b.
               subst (λ m. StandsBetween sizes k m image) (sym s.2)
               (between_kept sizes k s.0 s.0.acknowledged true true image b)));
         }
 
-  -- with what a crash leaves now, each moment on the way is told
+  -- from what a crash leaves now follows what it leaves at each moment meanwhile
   pub moments_of : OnlyNow view
       → (k next : Machine) (old new : Session D)
       → EachImage (view.contents new.committer.disk) (view.unsynced new.committer.disk)
       (StandsForSome old.committer.sizes next)
-      → MayGoOn view k old new next
+      → MayProgress view k old new next
       → LeavesOnly view old.committer.disk new.committer.disk
       (StandsBetween old.committer.sizes k next)
   moments_of only_now k next old new images g = by g.moments
@@ -145,8 +146,8 @@ module _ {D : Type 0} (view : View D) where
       → (k : Machine) (s : Session D)
       → EachImage (view.contents s.committer.disk) (view.unsynced s.committer.disk)
       (StandsForSome s.committer.sizes k)
-      → GoesWith k s
+      → SessionMatches k s
       → LeavesOnly view s.committer.disk s.committer.disk
       (StandsBetween s.committer.sizes k k)
-  rests only_now k s images goes =
-      moments_of only_now k k s s images (still k s goes)
+  rests only_now k s images matches =
+      moments_of only_now k k s s images (still k s matches)

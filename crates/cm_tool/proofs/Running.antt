@@ -12,15 +12,16 @@ use Rattle.std.specs.Io.KnownBytes.{Appends}
 use Rattle.cm_disk.specs.Disk.{View}
 use Rattle.cm_pool.specs.Geometry.{Sizes}
 use Rattle.cm_guards.specs.Calls.{LeavesOnly}
-use Rattle.cm_machine.specs.Machine.{Base, Machine, machine_from}
+use Rattle.cm_commands.specs.Machine.{Base, Machine, machine_from}
 use Rattle.cm_session.specs.declared.session.Session.{Session}
-use Rattle.cm_session.specs.Moves.{GoesWith}
+use Rattle.cm_session.specs.Moves.{SessionMatches}
 use Rattle.cm_lines.specs.declared.fault.LineFault.{LineFault}
 use Rattle.cm_lines.specs.declared.fault.LineFault.TheVariants as line_fault
 use Rattle.cm_lines.specs.declared.line.Line.{Line}
 use Rattle.cm_lines.specs.declared.line_buffer.LineBuffer.{LineBuffer}
 use Rattle.cm_lines.specs.Lines.{lines_of, asked_by, seen}
-use Rattle.cm_lines.specs.Streams.{io, TakesLines, HasNoLine, Begins, Holds, ReadsLine, WritesPart}
+use Rattle.cm_lines.specs.Streams.{io, TakesLines, HasNoLine, ScriptBegins, HoldsLine, ReadsLine}
+use Rattle.cm_lines.specs.Streams.{WritesPart}
 use Rattle.cm_tool.specs.declared.reply.ReplyKind.{ReplyKind}
 use Rattle.cm_tool.specs.declared.reply.Reply.{Reply}
 use Rattle.cm_tool.specs.Texts.{ReplyText}
@@ -30,9 +31,9 @@ use Rattle.cm_tool.specs.declared.script.ToolFault.{ToolFault}
 use Rattle.cm_tool.specs.declared.script.ToolFault.TheVariants as fault
 use Rattle.cm_tool.specs.Answers.{Served, served, Pause, pause}
 use Rattle.cm_tool.specs.Answers.{StandsBetween, RunsLine, AnswersEach, EndsUnsure}
-use Rattle.cm_tool.specs.Serving.{IsReady, LedTo, GoesOn, Replies}
+use Rattle.cm_tool.specs.Serving.{IsReady, ReachesServed, Progresses, Replies}
 use Rattle.cm_tool.specs.Runs.{fault_of, Turned, HasEnded, BreaksIn, BreaksBefore}
-use Rattle.cm_tool.specs.Runs.{Breaks, Turns, IsAnswered, EndsEarly, EndsBefore, EndsIn}
+use Rattle.cm_tool.specs.Runs.{RunBreaks, TakesTurn, IsAnswered, EndsEarly, EndsBefore, EndsIn}
 use Rattle.cm_tool.specs.Runs.{Ends, IsRun}
 
 -- ---- lines
@@ -56,19 +57,19 @@ takes_all (Some x) None lines p none = absurd p
 takes_all (Some x) (Some y) lines p none = sym (p ∙ ap (λ l. lines ++ l) none ∙ append-nil lines)
 
 begins_with : (a b : Option (List ℕ)) (lines : List (List ℕ)) → TakesLines a b lines
-    → Begins a lines
+    → ScriptBegins a lines
 begins_with None b lines p = tt
 begins_with (Some x) None lines p = absurd p
 begins_with (Some x) (Some y) lines p = (lines_of y, p)
 
 begins_more : (a b : Option (List ℕ)) (lines more : List (List ℕ)) → TakesLines a b lines
-    → Begins b more → Begins a (lines ++ more)
+    → ScriptBegins b more → ScriptBegins a (lines ++ more)
 begins_more None b lines more p q = tt
 begins_more (Some x) None lines more p q = absurd p
 begins_more (Some x) (Some y) lines more p q =
     (q.0, p ∙ ap (λ l. lines ++ l) q.1 ∙ sym (append_assoc lines more q.0))
 
--- the lines behind those that were taken
+-- the lines after those that were taken
 behind : Option (List ℕ) → List (List ℕ)
 behind None = []
 behind (Some script) = lines_of script
@@ -80,7 +81,7 @@ all_lines None b lines p = tt
 all_lines (Some x) None lines p = absurd p
 all_lines (Some x) (Some y) lines p = sym p
 
--- ---- answers
+-- ---- replies
 
 module _ {D : Type 0} (Leaves : D → D → (List ℕ → Type 0) → Type 0) (sizes : Sizes) where
   answered_more : (lines : List (List ℕ)) (replies : List ReplyText) (a b c : Pause D)
@@ -297,7 +298,7 @@ module _ {D : Type 0} (Leaves : D → D → (List ℕ → Type 0) → Type 0) (s
         written = Appends-trans h k m (reply_lines so.replies) w.part so.written w.written;
       }
 
-  broken : (e : ToolFault) → Breaks sizes e (io b k m) t.served u.served
+  broken : (e : ToolFault) → RunBreaks sizes e (io b k m) t.served u.served
       → Ends sizes e (io a h m) so.lines so.replies t.served u.served
   unfolding late
   broken fault.Input breaks = early breaks
@@ -305,7 +306,7 @@ module _ {D : Type 0} (Leaves : D → D → (List ℕ → Type 0) → Type 0) (s
   broken fault.NoMemory (inl breaks) = inl (early breaks)
   broken fault.NoMemory (inr breaks) = inr (late breaks.0, breaks.1)
 
-  run_broken : (e : ToolFault) → Breaks sizes e (io b k m) t.served u.served
+  run_broken : (e : ToolFault) → RunBreaks sizes e (io b k m) t.served u.served
       → Leaves t.disk u.disk (StandsBetween sizes t.served.machine u.served.machine)
       → EndsEarly Leaves sizes (io a h m) e s u
   run_broken e breaks moments =
@@ -335,124 +336,127 @@ ready_from base = record {
 -- a line leads from one machine to the next, and at each moment of it a crash left what it may
 pub record Went {D : Type 0} (Leaves : D → D → (List ℕ → Type 0) → Type 0) (sizes : Sizes)
     (d e : D) (Next : Machine → Type 0) (j next : Machine) : Type 0 where
-  pub goes : Next next
+  pub matches : Next next
   pub moments : Leaves d e (StandsBetween sizes j next)
 
 pub went : {D : Type 0} {Does : Served → Type 0} (view : View D) (now : ℕ) (k : Machine)
     (old new : Session D)
-    → LedTo Does now (GoesOn view k old new)
-    → LedTo Does now (Went (LeavesOnly view) old.committer.sizes old.committer.disk
-    new.committer.disk (λ next. GoesWith next new) k)
+    → ReachesServed Does now (Progresses view k old new)
+    → ReachesServed Does now (Went (LeavesOnly view) old.committer.sizes old.committer.disk
+    new.committer.disk (λ next. SessionMatches next new) k)
 went view now k old new led = record {
   next = led.next;
   does = led.does;
-  goes = record { goes = led.goes.goes; moments = led.goes.moments };
+  matches = record { matches = led.matches.matches; moments = led.matches.moments };
 }
 
 module _ {D : Type 0} (Leaves : D → D → (List ℕ → Type 0) → Type 0) (sizes : Sizes)
     (a b c h k m : Option (List ℕ)) (first : Pause D) (o : Outcome) (f now : ℕ) (d e : D)
-    (Goes Next : Machine → Type 0)
-    (so : LedTo (λ s. SoFar Leaves sizes a b h k o first (pause s d)) f Goes) where
-  -- what a line comes to, from whichever machine
+    (Matching Next : Machine → Type 0)
+    (so : ReachesServed (λ s. SoFar Leaves sizes a b h k o first (pause s d)) f Matching) where
+  -- the result of a line, from whichever machine
   abbrev LedBy : Result (Option ReplyKind) ToolFault → Type 0
   LedBy result =
-      (j : Machine) → Goes j → IsReady j
-      → LedTo (λ s. Turns sizes c (io b k m) result (pause (served j f) d) (pause s e)) now
+      (j : Machine) → Matching j → IsReady j
+      → ReachesServed (λ s. TakesTurn sizes c (io b k m) result (pause (served j f) d) (pause s e))
+      now
       (Went Leaves sizes d e Next j)
 
   pub lines_more : (n : Outcome) (kind : ReplyKind) → LedBy (Ok (Some kind)) → IsAfter o kind n
       → n.unsure ≡ false
-      → LedTo (λ s. SoFar Leaves sizes a c h m n first (pause s e)) now Next
+      → ReachesServed (λ s. SoFar Leaves sizes a c h m n first (pause s e)) now Next
   lines_more n kind turn after sure =
-      let t = turn so.next so.goes so.does.ready in
+      let t = turn so.next so.matches so.does.ready in
       record {
         next = t.next;
         does = run_more Leaves sizes a b c h k m first (pause (served so.next f) d)
-            (pause (served t.next now) e) o n kind so.does t.does t.goes.moments after sure;
-        goes = t.goes.goes;
+            (pause (served t.next now) e) o n kind so.does t.does t.matches.moments after sure;
+        matches = t.matches.matches;
       }
 
   pub lines_lost : (n : Outcome) (kind : ReplyKind) → LedBy (Ok (Some kind)) → IsAfter o kind n
       → n.unsure ≡ true
-      → LedTo (λ s. IsRun Leaves sizes (io a h m) (Ok n) first (pause s e)) now Next
+      → ReachesServed (λ s. IsRun Leaves sizes (io a h m) (Ok n) first (pause s e)) now Next
   lines_lost n kind turn after lost =
-      let t = turn so.next so.goes so.does.ready in
+      let t = turn so.next so.matches so.does.ready in
       record {
         next = t.next;
         does = run_lost Leaves sizes a b c h k m first (pause (served so.next f) d)
-            (pause (served t.next now) e) o n kind so.does t.does t.goes.moments after lost;
-        goes = t.goes.goes;
+            (pause (served t.next now) e) o n kind so.does t.does t.matches.moments after lost;
+        matches = t.matches.matches;
       }
 
   pub lines_end : LedBy (Ok None)
-      → LedTo (λ s. IsRun Leaves sizes (io a h m) (Ok o) first (pause s e)) now Next
+      → ReachesServed (λ s. IsRun Leaves sizes (io a h m) (Ok o) first (pause s e)) now Next
   lines_end turn =
-      let t = turn so.next so.goes so.does.ready in
+      let t = turn so.next so.matches so.does.ready in
       record {
         next = t.next;
         does = run_end Leaves sizes a b h k m first (pause (served so.next f) d)
             (pause (served t.next now) e) o so.does t.does;
-        goes = t.goes.goes;
+        matches = t.matches.matches;
       }
 
   pub lines_broken : (x : ToolFault) → LedBy (Err x)
-      → LedTo (λ s. IsRun Leaves sizes (io a h m) (Err x) first (pause s e)) now Next
+      → ReachesServed (λ s. IsRun Leaves sizes (io a h m) (Err x) first (pause s e)) now Next
   lines_broken x turn =
-      let t = turn so.next so.goes so.does.ready in
+      let t = turn so.next so.matches so.does.ready in
       record {
         next = t.next;
         does = run_broken Leaves sizes a b h k m first (pause (served so.next f) d)
-            (pause (served t.next now) e) o so.does x t.does t.goes.moments;
-        goes = t.goes.goes;
+            (pause (served t.next now) e) o so.does x t.does t.matches.moments;
+        matches = t.matches.matches;
       }
 
 module _ {D : Type 0} (Leaves : D → D → (List ℕ → Type 0) → Type 0) (sizes : Sizes) where
   pub lines_start : (a h : Option (List ℕ)) (k : Machine) (f : ℕ) (d : D) (o : Outcome)
-      (Goes : Machine → Type 0) → o.refused ≡ false → o.unsure ≡ false → IsReady k → Goes k
-      → LedTo (λ s. SoFar Leaves sizes a a h h o (pause (served k f) d) (pause s d)) f Goes
-  lines_start a h k f d o Goes p q ready goes = record {
+      (Matching : Machine → Type 0) → o.refused ≡ false → o.unsure ≡ false → IsReady k → Matching k
+      → ReachesServed (λ s. SoFar Leaves sizes a a h h o (pause (served k f) d) (pause s d)) f
+      Matching
+  lines_start a h k f d o Matching p q ready matches = record {
     next = k;
     does = run_start Leaves sizes a h (pause (served k f) d) o p q ready;
-    goes = goes;
+    matches = matches;
   }
 
-  -- the run gave up before the end
+  -- the run ended early
   pub lines_given_up : (a b h k : Option (List ℕ)) (first : Pause D) (o : Outcome) (f : ℕ) (d : D)
-      (Goes : Machine → Type 0)
-      → ((j : Machine) → Goes j → Leaves d d (StandsBetween sizes j j))
-      → LedTo (λ s. SoFar Leaves sizes a b h k o first (pause s d)) f Goes
-      → LedTo (λ s. IsRun Leaves sizes (io a h k) (Err fault.Input) first (pause s d)) f Goes
-  lines_given_up a b h k first o f d Goes still so = record {
+      (Matching : Machine → Type 0)
+      → ((j : Machine) → Matching j → Leaves d d (StandsBetween sizes j j))
+      → ReachesServed (λ s. SoFar Leaves sizes a b h k o first (pause s d)) f Matching
+      → ReachesServed (λ s. IsRun Leaves sizes (io a h k) (Err fault.Input) first (pause s d)) f
+      Matching
+  lines_given_up a b h k first o f d Matching still so = record {
     next = so.next;
     does = run_broken Leaves sizes a b h k k first (pause (served so.next f) d)
         (pause (served so.next f) d) o so.does fault.Input
-        (record { same = refl; nothing = Keeps-refl k }) (still so.next so.goes);
-    goes = so.goes;
+        (record { same = refl; nothing = Keeps-refl k }) (still so.next so.matches);
+    matches = so.matches;
   }
 
 -- ---- one line
 
 -- the reader failed, or an allocation did
 pub unread : (sizes : Sizes) (a h : Option (List ℕ)) (s : Served) (e : LineFault)
-    → (e ≡ line_fault.Output → ⊥) → Breaks sizes (fault_of e) (io a h h) s s
+    → (e ≡ line_fault.Output → ⊥) → RunBreaks sizes (fault_of e) (io a h h) s s
 unread sizes a h s line_fault.Input never = record { same = refl; nothing = Keeps-refl h }
 unread sizes a h s line_fault.Output never = absurd (never refl)
 unread sizes a h s line_fault.NoMemory never = inl (record { same = refl; nothing = Keeps-refl h })
 
--- the answer to the question is the answer to the line
+-- the reply to the request is the reply to the line
 asked_line : {E : Type 0} (sizes : Sizes) (a b : Option (List ℕ)) (buffer : LineBuffer)
-    (question : Option Line) (result : Result Reply E) (old new : Served)
+    (request : Option Line) (result : Result Reply E) (old new : Served)
     (read : ReadsLine a b buffer true)
-    → ((line : List ℕ) → Holds line buffer → option_map seen question ≡ asked_by line)
-    → Replies sizes (option_map seen question) result old new
+    → ((line : List ℕ) → HoldsLine line buffer → option_map seen request ≡ asked_by line)
+    → Replies sizes (option_map seen request) result old new
     → Replies sizes (asked_by (read.0)) result old new
-asked_line sizes a b buffer question result old new read says replies =
+asked_line sizes a b buffer request result old new read says replies =
     subst (λ q. Replies sizes q result old new) (says read.0 read.2) replies
 
--- no memory for the reply
+-- the allocation for the reply failed
 unmade : {E : Type 0} (sizes : Sizes) (a b h : Option (List ℕ)) (s u : Served) (line : List ℕ)
     (e : E) → TakesLines a b (line ∷ []) → Replies sizes (asked_by line) (Err e) s u
-    → Breaks sizes fault.NoMemory (io a h h) s u
+    → RunBreaks sizes fault.NoMemory (io a h h) s u
 unmade sizes a b h s u line e taken (inl same) =
     inl (record { same = same; nothing = Keeps-refl h })
 unmade sizes a b h s u line e taken (inr answered) =
@@ -472,27 +476,29 @@ unmade sizes a b h s u line e taken (inr answered) =
     inr (cut, refl)
 
 module _ {D : Type 0} (sizes : Sizes) (a b h : Option (List ℕ)) (old : Served) (now : ℕ)
-    (d e : D) (Goes : Machine → Type 0) (buffer : LineBuffer) (question : Option Line)
+    (d e : D) (Matching : Machine → Type 0) (buffer : LineBuffer) (request : Option Line)
     (read : ReadsLine a b buffer true)
-    (says : (line : List ℕ) → Holds line buffer → option_map seen question ≡ asked_by line) where
+    (says : (line : List ℕ) → HoldsLine line buffer → option_map seen request ≡ asked_by line) where
   pub line_unmade : {E : Type 0} (x : E)
-      → LedTo (Replies {E = E} sizes (option_map seen question) (Err x) old) now Goes
-      → LedTo (λ s. Turns sizes b (io a h h) (Err fault.NoMemory) (pause old d) (pause s e)) now
-      Goes
+      → ReachesServed (Replies {E = E} sizes (option_map seen request) (Err x) old) now Matching
+      → ReachesServed (λ s. TakesTurn sizes b (io a h h) (Err fault.NoMemory) (pause old d)
+      (pause s e)) now
+      Matching
   line_unmade x led = record {
     next = led.next;
     does = unmade sizes a b h old (served led.next now) read.0 x read.1
-        (asked_line sizes a b buffer question (Err x) old (served led.next now) read says led.does);
-    goes = led.goes;
+        (asked_line sizes a b buffer request (Err x) old (served led.next now) read says led.does);
+    matches = led.matches;
   }
 
   pub line_answered : (E : Type 0) (m : Option (List ℕ)) (reply : Reply)
-      → LedTo (Replies {E = E} sizes (option_map seen question) (Ok reply) old) now Goes
+      → ReachesServed (Replies {E = E} sizes (option_map seen request) (Ok reply) old) now Matching
       → Appends h m reply.line.items
-      → LedTo (λ s. Turns sizes b (io a h m) (Ok (Some reply.kind)) (pause old d) (pause s e)) now
-      Goes
+      → ReachesServed (λ s. TakesTurn sizes b (io a h m) (Ok (Some reply.kind)) (pause old d)
+      (pause s e)) now
+      Matching
   line_answered E m reply led written =
-      let r = asked_line {E = E} sizes a b buffer question (Ok reply) old (served led.next now) read
+      let r = asked_line {E = E} sizes a b buffer request (Ok reply) old (served led.next now) read
       says led.does in
       record {
         next = led.next;
@@ -506,15 +512,16 @@ module _ {D : Type 0} (sizes : Sizes) (a b h : Option (List ℕ)) (old : Served)
           rest_is = r.3.rest;
           works = r.3.works;
         };
-        goes = led.goes;
+        matches = led.matches;
       }
 
   pub line_unwritten : (E : Type 0) (m : Option (List ℕ)) (reply : Reply)
-      → LedTo (Replies {E = E} sizes (option_map seen question) (Ok reply) old) now Goes
+      → ReachesServed (Replies {E = E} sizes (option_map seen request) (Ok reply) old) now Matching
       → WritesPart h m reply.line.items
-      → LedTo (λ s. Turns sizes b (io a h m) (Err fault.Output) (pause old d) (pause s e)) now Goes
+      → ReachesServed (λ s. TakesTurn sizes b (io a h m) (Err fault.Output) (pause old d)
+      (pause s e)) now Matching
   line_unwritten E m reply led written =
-      let r = asked_line {E = E} sizes a b buffer question (Ok reply) old (served led.next now) read
+      let r = asked_line {E = E} sizes a b buffer request (Ok reply) old (served led.next now) read
       says led.does in
       record {
         next = led.next;
@@ -525,5 +532,5 @@ module _ {D : Type 0} (sizes : Sizes) (a b h : Option (List ℕ)) (old : Served)
           answer = r.2;
           written = subst (WritesPart h m) r.1.line written;
         };
-        goes = led.goes;
+        matches = led.matches;
       }

@@ -5,11 +5,11 @@ use Rattle.hex.specs.declared.error.FromHexError.{FromHexError}
 use Rattle.cm_class.specs.declared.class_file.ClassFile.{ClassFile}
 use Rattle.cm_record.specs.Layout.{lay}
 use Rattle.cm_record.specs.Names.{class_name_in}
-use Rattle.cm_rules.specs.Answer.{IsRight}
-use Rattle.cm_prepare.specs.declared.refusal.Refusal.TheVariants as refusal
-use Rattle.cm_prepare.specs.Prepare.{IsUnprepared}
+use Rattle.cm_rules.specs.Answer.{SpellsRightClass}
+use Rattle.cm_commands.specs.declared.refusal.Refusal.TheVariants as refusal
+use Rattle.cm_commands.specs.Prepare.{IsUnprepared}
 use Rattle.cm_lines.specs.Lines.{AsksDefine, asked_by}
-use Rattle.cm_lines.specs.Streams.{Holds}
+use Rattle.cm_lines.specs.Streams.{HoldsLine}
 use Rattle.cm_tool.specs.declared.ahead.LineClass.{LineClass}
 use Rattle.cm_tool.specs.declared.ahead.LineClass.TheVariants.{Ready, Refused, NoMemory}
 use Rattle.cm_tool.specs.declared.ahead.Known.{Known}
@@ -17,10 +17,10 @@ use Rattle.cm_tool.specs.declared.ahead.Known.{Known}
 -- these are the words of the record of the class that the bytes are, which keeps the rules
 pub record AreWordsOf (bytes words : List ℕ) : Type 0 where
   pub class : ClassFile
-  pub right : IsRight bytes class
+  pub right : SpellsRightClass bytes class
   pub laid : words ≡ lay class
 
--- of the bytes that digits stand for, if they are digits
+-- the same for the bytes that digits stand for, if they are digits
 abbrev pub IsClassOf : Result (List ℕ) FromHexError → LineClass → Type 0
 IsClassOf decoded NoMemory = Unit {0}
 IsClassOf decoded (Ready words name) =
@@ -33,6 +33,6 @@ IsClassOf decoded (Refused r) =
 -- the class is that of the line's digits
 abbrev pub IsItsClass : Known → Type 0
 IsItsClass known =
-    (text loader digits : List ℕ) → Holds text known.line
+    (text loader digits : List ℕ) → HoldsLine text known.line
     → asked_by text ≡ Some (AsksDefine loader digits)
     → IfSome known.class (IsClassOf (decode_of digits))

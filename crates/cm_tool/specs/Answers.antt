@@ -1,5 +1,5 @@
--- The answers of a cache to the lines of a script: to one line after another, each by what the
--- abstract machine came to so far.
+-- The replies of a cache to the lines of a script, one line after another, each by the state of the
+-- abstract machine at that line.
 use Rattle.std.specs.Prelude.{◌≡◌, ◌<◌, ◌≤◌, ◌⊎◌, ℕ, ◌++◌, true, false, List, [], ◌∷◌, length}
 use Rattle.std.specs.Prelude.{take}
 use Rattle.std.specs.Prelude.{Option, Some, None, Result, Ok, Err}
@@ -9,13 +9,13 @@ use Rattle.cm_class.specs.declared.class_file.ClassFile.{ClassFile}
 use Rattle.cm_pool.specs.Geometry.{Sizes}
 use Rattle.cm_record.specs.Layout.{lay, limit, IsRecordOf}
 use Rattle.cm_record.specs.Names.{class_name_of}
-use Rattle.cm_rules.specs.Answer.{IsRight}
+use Rattle.cm_rules.specs.Answer.{SpellsRightClass}
 use Rattle.cm_state.specs.Step.{Change, AddLoader, Define, Unload, Tighten, UnloadAll}
-use Rattle.cm_prepare.specs.declared.refusal.Refusal.{Refusal}
-use Rattle.cm_prepare.specs.Prepare.{IsUnprepared}
-use Rattle.cm_prepare.specs.Names.{names_kept}
-use Rattle.cm_machine.specs.Machine.{Machine, Accepts, Refuses}
-use Rattle.cm_machine.specs.Laws.{Finds}
+use Rattle.cm_commands.specs.declared.refusal.Refusal.{Refusal}
+use Rattle.cm_commands.specs.Prepare.{IsUnprepared}
+use Rattle.cm_commands.specs.Names.{names_kept}
+use Rattle.cm_commands.specs.Machine.{Machine, Accepts, Refuses}
+use Rattle.cm_handover.specs.Laws.{Finds}
 use Rattle.cm_session.specs.Images.{StandsFor}
 use Rattle.cm_lines.specs.Escapes.{unescaped}
 use Rattle.cm_lines.specs.Lines.{Asked, AsksLoader, AsksUnload, AsksTighten, AsksDefine, AsksFind}
@@ -24,7 +24,7 @@ use Rattle.cm_tool.specs.Texts.{ReplyText, number_reply, defined_reply, none_rep
 use Rattle.cm_tool.specs.Texts.{refusal_reply, unsure_reply, bad_line_reply}
 use Rattle.cm_tool.specs.Replies.{is_unsure}
 
--- What a script runs on: the machine that the cache goes with, and how often its disk has failed.
+-- What a script runs on: the machine that the cache matches, and how often its disk has failed.
 pub record Served : Type 0 where
   pub machine : Machine
   pub failures : ℕ
@@ -34,7 +34,7 @@ served machine failures = record { machine = machine; failures = failures }
 
 -- ---- one command
 
--- It is stored: accepted with the next number, handed out and acknowledged.
+-- The command is stored: accepted with the next number, handed out and acknowledged.
 pub record IsDone (sizes : Sizes) (change : Change ClassFile) (told : ℕ → ReplyText) (old : Served)
     (given : ReplyText) (new : Served) : Type 0 where
   pub number : ℕ
@@ -44,7 +44,8 @@ pub record IsDone (sizes : Sizes) (change : Change ClassFile) (told : ℕ → Re
   pub machine_is : new.machine ≡ record accepted { sealed = number; acknowledged = number }
   pub failures : old.failures ≤ new.failures
 
--- It is refused, for the first cause against it or for want of room, and nothing is changed.
+-- The command is refused, for the first cause against it or for lack of room, and nothing is
+-- changed.
 pub record IsRefused (sizes : Sizes) (change : Change ClassFile) (old : Served) (given : ReplyText)
     (new : Served) : Type 0 where
   pub refusal : Refusal
@@ -52,8 +53,8 @@ pub record IsRefused (sizes : Sizes) (change : Change ClassFile) (old : Served) 
   pub reply : given ≡ refusal_reply refusal
   pub same : new ≡ old
 
--- It was accepted with the next number, and the device failed before its receipt: the file holds it
--- or doesn't, and no command is accepted any more.
+-- The command was accepted with the next number, and the device failed before its receipt: the file
+-- may or may not hold it, and no command is accepted any more.
 pub record IsLost (sizes : Sizes) (change : Change ClassFile) (old : Served) (given : ReplyText)
     (new : Served) : Type 0 where
   pub number : ℕ
@@ -67,7 +68,7 @@ pub record IsLost (sizes : Sizes) (change : Change ClassFile) (old : Served) (gi
   }
   pub failed : old.failures < new.failures
 
--- of a command, with the reply that says its number once it is done
+-- a command has this reply, which contains its number once it is done
 abbrev pub AnswersCommand : Sizes → Change ClassFile → (ℕ → ReplyText) → Served → ReplyText → Served
     → Type 0
 AnswersCommand sizes change told old given new =
@@ -87,29 +88,29 @@ pub record AnswersFault (bytes : List ℕ) (old : Served) (given : ReplyText) (n
   pub reply : given ≡ refusal_reply refusal
   pub same : new ≡ old
 
--- they are a class that keeps the rules, whose record is no longer than records may be
+-- the bytes are a class that keeps the rules, whose record is no longer than the limit
 pub record AnswersClass (sizes : Sizes) (loader bytes : List ℕ) (old : Served) (given : ReplyText)
     (new : Served) : Type 0 where
   pub c : ClassFile
-  pub right : IsRight bytes c
+  pub right : SpellsRightClass bytes c
   pub short : length (lay c) ≤ limit
   pub answer : AnswersCommand sizes (Define loader c) (λ n. defined_reply n (class_name_of c)) old
       given new
 
--- of the bytes that the digits stand for
+-- the reply to a define, by the bytes that the digits stand for
 abbrev pub AnswersDefine : Sizes → List ℕ → Result (List ℕ) FromHexError → Served → ReplyText
     → Served → Type 0
 AnswersDefine sizes loader (Err e) old given new = IsBadLine old given new
 AnswersDefine sizes loader (Ok bytes) old given new =
     AnswersFault bytes old given new ⊎ AnswersClass sizes loader bytes old given new
 
--- of the words of the record that is found under the name
+-- the reply for the words of the record that is found under the name
 abbrev pub TellsClass : List ℕ → Option (List ℕ) → ReplyText → Type 0
 TellsClass name None given = given ≡ none_reply
 TellsClass name (Some words) given =
     (c : ClassFile) × IsRecordOf c words × (given ≡ class_reply name c (length words))
 
--- what the machine finds is told, and nothing is changed
+-- the reply says what the machine finds, and nothing is changed
 pub record AnswersName (sizes : Sizes) (loader name : List ℕ) (old : Served) (given : ReplyText)
     (new : Served) : Type 0 where
   pub found : Option (List ℕ)
@@ -117,7 +118,7 @@ pub record AnswersName (sizes : Sizes) (loader name : List ℕ) (old : Served) (
   pub tells : TellsClass name found given
   pub same : new ≡ old
 
--- of the name that the last word spells
+-- the reply to a find, by the name that the last word spells
 abbrev pub AnswersFind : Sizes → List ℕ → Option (List ℕ) → Served → ReplyText → Served → Type 0
 AnswersFind sizes loader None old given new = IsBadLine old given new
 AnswersFind sizes loader (Some name) old given new = AnswersName sizes loader name old given new
@@ -130,7 +131,7 @@ AnswersAsked sizes (Some (AsksUnload name)) old given new =
     AnswersCommand sizes (Unload name) number_reply old given new
 AnswersAsked sizes (Some (AsksTighten name)) old given new =
     AnswersCommand sizes (Tighten name) number_reply old given new
--- Of more than seven names the first eight are enough: those are refused as all of them would be.
+-- Of more than seven names the first eight are enough: these are refused as all of them would be.
 AnswersAsked sizes (Some (AsksUnloadAll names)) old given new =
     AnswersCommand sizes (UnloadAll (take names_kept names)) number_reply old given new
 AnswersAsked sizes (Some (AsksDefine loader digits)) old given new =
@@ -138,13 +139,13 @@ AnswersAsked sizes (Some (AsksDefine loader digits)) old given new =
 AnswersAsked sizes (Some (AsksFind loader name)) old given new =
     AnswersFind sizes loader (unescaped name) old given new
 
--- a line that is too long asks for nothing, whatever it says
+-- a line that is too long is no request, whatever it says
 abbrev pub AnswersLine : Sizes → List ℕ → Served → ReplyText → Served → Type 0
 AnswersLine sizes line old given new = AnswersAsked sizes (asked_by line) old given new
 
 -- ---- a script
 
--- where a script stands between two lines: what it runs on, and the disk
+-- the state of a script between two lines: what it runs on, and the disk
 pub record Pause (D : Type 0) : Type 0 where
   pub served : Served
   pub disk : D
@@ -152,7 +153,7 @@ pub record Pause (D : Type 0) : Type 0 where
 abbrev pub pause : {D : Type 0} → Served → D → Pause D
 pause served disk = record { served = served; disk = disk }
 
--- The contents stand for what some number of the commands came to: all of them that were
+-- The contents stand for the result of some number of the commands: all of them that were
 -- acknowledged before, and none that wasn't handed out by now.
 pub record StandsBetween (sizes : Sizes) (before now : Machine) (contents : List ℕ)
     : Type 0 where
@@ -161,9 +162,9 @@ pub record StandsBetween (sizes : Sizes) (before now : Machine) (contents : List
   pub most : number ≤ now.sealed
   pub stands : StandsFor sizes now number contents
 
--- A line was answered, and at each moment on the way a crash left what stands for all that was
--- acknowledged before it, and for nothing that wasn't handed out by its end. What a crash leaves
--- between two disks is an argument.
+-- A line has its reply, and at each moment meanwhile a crash left what stands for all that was
+-- acknowledged before it, and for nothing that wasn't handed out by its end. `Leaves` says what a
+-- crash leaves between two disks.
 pub record RunsLine {D : Type 0} (Leaves : D → D → (List ℕ → Type 0) → Type 0) (sizes : Sizes)
     (line : List ℕ) (old : Pause D) (given : ReplyText) (new : Pause D) : Type 0 where
   pub answer : AnswersLine sizes line old.served given new.served

@@ -1,4 +1,4 @@
--- What comes of a script on the cache that stands on a disk.
+-- The result of a script on the cache of a disk.
 use Rattle.std.specs.Prelude.{◌≡◌, ◌<◌, ◌≤◌, ℕ, List}
 use Rattle.cm_pool.specs.Geometry.{Sizes}
 use Rattle.cm_disk.specs.Disk.{IsWithin}
@@ -8,7 +8,7 @@ use Rattle.cm_recover.specs.declared.fault.OpenFault.{OpenFault}
 use Rattle.cm_recover.specs.declared.fault.OpenFault.TheVariants as open_fault
 use Rattle.cm_recover.specs.Opening.{IsFaultIn}
 use Rattle.cm_recover.specs.Opened.{IsOlderFile}
-use Rattle.cm_machine.specs.Machine.{Base, machine_from}
+use Rattle.cm_commands.specs.Machine.{Base, machine_from}
 use Rattle.cm_lines.specs.Streams.{Io}
 use Rattle.cm_tool.specs.declared.apply.ApplyFault.{ApplyFault}
 use Rattle.cm_tool.specs.declared.apply.ApplyFault.TheVariants as apply
@@ -33,9 +33,8 @@ pub record RunsFromOpened {D : Type 0} (Leaves : D → D → (List ℕ → Type 
   pub came : Came sizes (pause (served (machine_from base) failures) opened) (pause new ended)
   pub leaves : LeavesDisk sizes left new
 
--- Nothing was run: the disk has its bytes, unless they are of an older version and were being moved
--- over; nothing is written, and the fault is the one that the bytes have, or of the device or of
--- memory.
+-- Nothing was run: the disk has its bytes, unless they are of version 1 and were being upgraded;
+-- nothing is written, and the fault is that of the bytes, or the device or an allocation failed.
 pub record IsUntouched {D : Type 0} (Leaves : D → D → (List ℕ → Type 0) → Type 0)
     (begun ended : D) (io : Io) (disk left : Medium) (f : OpenFault) : Type 0 where
   pub bytes_stay : (IsOlderFile disk.bytes → ⊥) → left.bytes ≡ disk.bytes
@@ -45,11 +44,11 @@ pub record IsUntouched {D : Type 0} (Leaves : D → D → (List ℕ → Type 0) 
   pub fault_is : IsFaultIn f (verdict disk.bytes)
   pub device : f ≡ open_fault.Device → disk.failures < left.failures
 
--- why a run isn't there, or ended early
-abbrev pub IsStopped : {D : Type 0} → (D → D → (List ℕ → Type 0) → Type 0) → D → D → Io → Medium
+-- why a run didn't begin, or ended early
+abbrev pub ApplyStops : {D : Type 0} → (D → D → (List ℕ → Type 0) → Type 0) → D → D → Io → Medium
     → Medium → ApplyFault → Type 0
-IsStopped Leaves begun ended io disk left (apply.Open f) =
+ApplyStops Leaves begun ended io disk left (apply.Open f) =
     IsUntouched Leaves begun ended io disk left f
-IsStopped Leaves begun ended io disk left (apply.Script e) =
+ApplyStops Leaves begun ended io disk left (apply.Script e) =
     RunsFromOpened Leaves begun ended disk left
     (λ sizes old new. EndsEarly Leaves sizes io e old new)

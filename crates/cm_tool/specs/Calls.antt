@@ -1,4 +1,4 @@
--- The replies of a cache that runs to lines, whose commands are accepted through one pass.
+-- The replies of a running cache to lines whose commands are accepted through one pass.
 use Rattle.std.specs.Prelude.{◌≡◌, ◌⊎◌, ℕ, List, length, take, Option, Some, None, Result, Ok, Err}
 use Rattle.hex.specs.Hex.{decode_of}
 use Rattle.hex.specs.declared.error.FromHexError.{FromHexError}
@@ -6,10 +6,10 @@ use Rattle.cm_class.specs.declared.class_file.ClassFile.{ClassFile}
 use Rattle.cm_record.specs.Layout.{IsRecordOf}
 use Rattle.cm_record.specs.Names.{class_name_in}
 use Rattle.cm_state.specs.Step.{Change, AddLoader, Define, Unload, Tighten, UnloadAll}
-use Rattle.cm_prepare.specs.declared.refusal.Refusal.{Refusal}
-use Rattle.cm_prepare.specs.Prepare.{IsUnprepared}
-use Rattle.cm_prepare.specs.Names.{names_kept}
-use Rattle.cm_cache.specs.Shared.{PassState, Tells}
+use Rattle.cm_commands.specs.declared.refusal.Refusal.{Refusal}
+use Rattle.cm_commands.specs.Prepare.{IsUnprepared}
+use Rattle.cm_commands.specs.Names.{names_kept}
+use Rattle.cm_cache.specs.Shared.{PassState, ReportsChange}
 use Rattle.cm_lines.specs.Escapes.{unescaped}
 use Rattle.cm_lines.specs.Lines.{Asked, AsksLoader, AsksUnload, AsksTighten, AsksDefine, AsksFind}
 use Rattle.cm_lines.specs.Lines.{AsksUnloadAll}
@@ -17,25 +17,25 @@ use Rattle.cm_tool.specs.Texts.{ReplyText, number_reply, defined_reply, none_rep
 use Rattle.cm_tool.specs.Texts.{refusal_reply, bad_line_reply}
 use Rattle.cm_tool.specs.Ahead.{AreWordsOf}
 
--- the reply to a command's answer
+-- the reply for a command's result
 abbrev pub reply_to : (ℕ → ReplyText) → Result ℕ Refusal → ReplyText
 reply_to told (Ok number) = told number
 reply_to told (Err r) = refusal_reply r
 
--- the change was asked of the cache, and the reply is what that answered
+-- the change was requested of the cache, and the reply is its result
 pub record RepliesTo (change : Change (List ℕ)) (told : ℕ → ReplyText) (old : PassState)
     (given : ReplyText) (new : PassState) : Type 0 where
   pub answer : Result ℕ Refusal
-  pub tells : Tells old change answer new
+  pub tells : ReportsChange old change answer new
   pub reply : given ≡ reply_to told answer
 
--- nothing was asked of it
+-- nothing was requested of the cache
 pub record IsUnasked (why : ReplyText) (old : PassState) (given : ReplyText) (new : PassState)
     : Type 0 where
   pub reply : given ≡ why
   pub same : new ≡ old
 
--- of the bytes that the digits stand for
+-- the reply to a define, by the bytes that the digits stand for
 abbrev pub RepliesToDefine : List ℕ → Result (List ℕ) FromHexError → PassState → ReplyText
     → PassState → Type 0
 RepliesToDefine loader (Err e) old given new = IsUnasked bad_line_reply old given new
@@ -44,7 +44,7 @@ RepliesToDefine loader (Ok bytes) old given new =
     ⊎ ((words : List ℕ) × AreWordsOf bytes words
     × RepliesTo (Define loader words) (λ n. defined_reply n (class_name_in words)) old given new)
 
--- a class of that name which was found, or that none was
+-- the reply gives a class of that name that was found, or says that none was
 abbrev pub TellsFound : List ℕ → ReplyText → Type 0
 TellsFound name given =
     (given ≡ none_reply)

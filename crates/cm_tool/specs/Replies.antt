@@ -6,14 +6,14 @@ use Rattle.cm_tool.specs.declared.reply.ReplyKind.TheVariants as kind
 use Rattle.cm_tool.specs.declared.reply.Reply.{Reply}
 use Rattle.cm_tool.specs.Texts.{ReplyText}
 
--- what is written of a reply, and of replies
+-- the bytes written for a reply, and for replies
 abbrev pub reply_line : ReplyText → List ℕ
 reply_line given = given.text ++ 10 ∷ []
 
 abbrev pub reply_lines : List ReplyText → List ℕ
 reply_lines replies = flat_map reply_line replies
 
--- the reply says that, and its line is that text with the newline
+-- the reply has this kind, and its line is this text with the newline
 pub record IsReply (given : ReplyText) (reply : Reply) : Type 0 where
   pub kind : reply.kind ≡ given.kind
   pub line : reply.line.items ≡ reply_line given

@@ -1,5 +1,4 @@
--- What a run of a script takes from its reader and gives to its writer, if those tell their
--- bytes.
+-- What a run of a script takes from its reader and gives to its writer, if their bytes are known.
 use Rattle.std.specs.Prelude.{◌≡◌, ◌⊎◌, ℕ, ◌++◌, false, List, [], ◌∷◌, Option, Some, None}
 use Rattle.std.specs.Prelude.{IfSome, Result, Ok, Err}
 use Rattle.std.specs.List.{list_any}
@@ -9,7 +8,7 @@ use Rattle.cm_session.specs.Storing.{IsAtRest}
 use Rattle.cm_lines.specs.declared.fault.LineFault.{LineFault}
 use Rattle.cm_lines.specs.declared.fault.LineFault.TheVariants as line_fault
 use Rattle.cm_lines.specs.Lines.{lines_of}
-use Rattle.cm_lines.specs.Streams.{Io, TakesLines, HasNoLine, Begins, WritesPart}
+use Rattle.cm_lines.specs.Streams.{Io, TakesLines, HasNoLine, ScriptBegins, WritesPart}
 use Rattle.cm_tool.specs.declared.reply.ReplyKind.{ReplyKind}
 use Rattle.cm_tool.specs.Texts.{ReplyText}
 use Rattle.cm_tool.specs.Replies.{is_refused, is_unsure, reply_line, reply_lines}
@@ -26,7 +25,7 @@ fault_of line_fault.NoMemory = fault.NoMemory
 
 -- ---- one line
 
--- a line was read, run and answered
+-- a line was read and run, and its reply written
 pub record Turned (sizes : Sizes) (rest : Option (List ℕ)) (io : Io) (k : ReplyKind)
     (old new : Served)
     : Type 0 where
@@ -48,7 +47,7 @@ pub record HasEnded {D : Type 0} (io : Io) (old new : Pause D) : Type 0 where
 pub record BreaksIn (sizes : Sizes) (io : Io) (old new : Served) : Type 0 where
   pub line : List ℕ
   pub given : ReplyText
-  pub next : Begins io.script (line ∷ [])
+  pub next : ScriptBegins io.script (line ∷ [])
   pub answer : AnswersLine sizes line old given new
   pub written : WritesPart io.before io.after (reply_line given)
 
@@ -59,24 +58,25 @@ pub record BreaksBefore (io : Io) (old new : Served) : Type 0 where
 
 -- A failing reader breaks before a line, a failing writer in one. A failed allocation breaks before
 -- it, or in it with nothing of its reply written.
-abbrev pub Breaks : Sizes → ToolFault → Io → Served → Served → Type 0
-Breaks sizes fault.Input io old new = BreaksBefore io old new
-Breaks sizes fault.Output io old new = BreaksIn sizes io old new
-Breaks sizes fault.NoMemory io old new =
+abbrev pub RunBreaks : Sizes → ToolFault → Io → Served → Served → Type 0
+RunBreaks sizes fault.Input io old new = BreaksBefore io old new
+RunBreaks sizes fault.Output io old new = BreaksIn sizes io old new
+RunBreaks sizes fault.NoMemory io old new =
     BreaksBefore io old new ⊎ ((b : BreaksIn sizes io old new) × (b.written.part ≡ []))
 
--- the rest is what the reader gives after the line
-abbrev pub Turns : {D : Type 0} → Sizes → Option (List ℕ) → Io → Result (Option ReplyKind) ToolFault
+-- `rest` is what the reader gives after the line
+abbrev pub TakesTurn : {D : Type 0} → Sizes → Option (List ℕ) → Io
+    → Result (Option ReplyKind) ToolFault
     → Pause D → Pause D → Type 0
-Turns sizes rest io (Ok (Some k)) old new = Turned sizes rest io k old.served new.served
-Turns sizes rest io (Ok None) old new = HasEnded io old new
-Turns sizes rest io (Err e) old new = Breaks sizes e io old.served new.served
+TakesTurn sizes rest io (Ok (Some k)) old new = Turned sizes rest io k old.served new.served
+TakesTurn sizes rest io (Ok None) old new = HasEnded io old new
+TakesTurn sizes rest io (Err e) old new = RunBreaks sizes e io old.served new.served
 
 -- ---- a whole script
 
--- If the reader's bytes are known, the lines are those of that script; the replies answer them,
--- and they are what is written. The outcome says whether some reply is a refusal, and whether one
--- is unsure. All that was answered `ok` is acknowledged.
+-- If the reader's bytes are known, the lines are those of that script; the replies are those to
+-- these lines, and they are what is written. The outcome says whether some reply is a refusal, and
+-- whether one is unsure. All commands with the reply `ok` are acknowledged.
 pub record IsAnswered {D : Type 0} (Leaves : D → D → (List ℕ → Type 0) → Type 0) (sizes : Sizes)
     (io : Io) (outcome : Outcome) (old new : Pause D) : Type 0 where
   pub lines : List (List ℕ)
@@ -93,11 +93,11 @@ pub record EndsBefore (io : Io) (replies : List ReplyText) (between new : Served
   pub same : new ≡ between
   pub written : Appends io.before io.after (reply_lines replies)
 
--- the next line was run too, and a part of its reply is written, or nothing of it
+-- the next line was run too, and a part of its reply is written, or none of it
 pub record EndsIn (sizes : Sizes) (io : Io) (lines : List (List ℕ)) (replies : List ReplyText)
     (between new : Served) : Type 0 where
   pub line : List ℕ
-  pub begins : Begins io.script (lines ++ line ∷ [])
+  pub begins : ScriptBegins io.script (lines ++ line ∷ [])
   pub given : ReplyText
   pub answer : AnswersLine sizes line between given new
   pub part : List ℕ
@@ -112,14 +112,14 @@ Ends sizes fault.NoMemory io lines replies between new =
     EndsBefore io replies between new
     ⊎ ((e : EndsIn sizes io lines replies between new) × (e.part ≡ []))
 
--- The script's first lines were answered, each reply is written, and none is unsure. Then the run
+-- The script's first lines were run, the reply to each is written, and none is unsure. Then the run
 -- broke: by a failing reader before the next line was run, by a failing writer in it, and by a
--- failed allocation before it, or in it with nothing of its reply written. In it as in the others,
--- at each moment a crash left what stands for all that was acknowledged before.
+-- failed allocation before it, or in it with nothing of its reply written. In this line as in the
+-- others, at each moment a crash left what stands for all that was acknowledged before.
 pub record EndsEarly {D : Type 0} (Leaves : D → D → (List ℕ → Type 0) → Type 0) (sizes : Sizes)
     (io : Io) (e : ToolFault) (old new : Pause D) : Type 0 where
   pub lines : List (List ℕ)
-  pub begins : Begins io.script lines
+  pub begins : ScriptBegins io.script lines
   pub replies : List ReplyText
   pub between : Pause D
   pub answered : AnswersEach Leaves sizes lines old replies between

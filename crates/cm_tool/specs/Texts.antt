@@ -4,10 +4,10 @@ use Rattle.std.specs.Prelude.{codes, Option, Some, None}
 use Rattle.std.specs.Fmt.{decimal}
 use Rattle.cm_class.specs.declared.class_file.ClassFile.{ClassFile}
 use Rattle.cm_record.specs.Names.{super_name_of}
-use Rattle.cm_prepare.specs.declared.refusal.Refusal.{Refusal}
-use Rattle.cm_prepare.specs.declared.refusal.Refusal.TheVariants as refusal
-use Rattle.cm_prepare.specs.Refusals.{refusal_number}
-use Rattle.cm_prepare.specs.Texts.{refusal_text}
+use Rattle.cm_commands.specs.declared.refusal.Refusal.{Refusal}
+use Rattle.cm_commands.specs.declared.refusal.Refusal.TheVariants as refusal
+use Rattle.cm_commands.specs.Refusals.{refusal_number}
+use Rattle.cm_commands.specs.Texts.{refusal_text}
 use Rattle.cm_lines.specs.Escapes.{escaped}
 use Rattle.cm_tool.specs.declared.reply.ReplyKind.{ReplyKind}
 use Rattle.cm_tool.specs.declared.reply.ReplyKind.TheVariants as kind
@@ -59,7 +59,7 @@ abbrev pub refused_reply : ℕ → List ℕ → ReplyText
 refused_reply k why =
     record { kind = kind.Refused; text = codes "refused " ++ decimal k ++ codes " " ++ why }
 
--- a command that the device didn't take is unsure, and not refused
+-- a command that the device failed to store is unsure, and not refused
 abbrev pub refusal_reply : Refusal → ReplyText
 refusal_reply (refusal.Unsure n) =
     record { kind = kind.Unsure; text = refusal_text (refusal.Unsure n) }

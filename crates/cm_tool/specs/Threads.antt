@@ -1,4 +1,4 @@
--- What a script leaves whose commands are stored by a thread of its own.
+-- The result of a script whose commands are stored by a thread of its own.
 use Rattle.std.specs.Prelude.{◌≡◌, ◌≤◌, ℕ, true, List, Option, Some, None, Ok, IfSome, option_map}
 use Rattle.std.specs.Prelude.{IsSomeAnd}
 use Rattle.cm_record.specs.Layout.{lay}
@@ -48,7 +48,7 @@ pub record RunsInThreads {D : Type 0} (Leaves : D → D → (List ℕ → Type 0
   pub leaves : IfSome left (LeavesRun (base_in standing) failures)
   pub came : Came failures
 
--- Why a run isn't there, or ended early. The disk is given up only if the threads can't be had.
+-- Why a run didn't begin, or ended early. The disk is dropped only if the threads can't be started.
 abbrev pub IsStoppedInThreads : {D : Type 0} → (D → D → (List ℕ → Type 0) → Type 0)
     → (D → Medium) → D → Option D → Io → ApplyFault → Type 0
 IsStoppedInThreads Leaves medium_of begun left io (apply.Open f) =

@@ -4,8 +4,8 @@ ghost use Rattle.std.specs.Prelude.{◌≡◌, ◌<◌, Ok, None};
 ghost use Rattle.hex.specs.Hex.{decode_of};
 ghost use Rattle.cm_tool.specs.Ahead.{IsClassOf, IsItsClass};
 
+use cm_commands::{Prepared, Refusal, prepare};
 use cm_lines::{Line, LineBuffer, LineFault, read_line};
-use cm_prepare::{Prepared, Refusal, prepare};
 use hex::FromHexError;
 use std::alloc::Global;
 use std::io::{BufRead, ErrorKind};
@@ -19,7 +19,7 @@ const MOST_LINES: usize = 1_024;
 /// The class that a line defines.
 #[derive(Drop)]
 pub enum LineClass {
-    /// It is prepared. Beside it is its name.
+    /// It is prepared, with its name.
     Ready(Prepared, Vec<u8>),
     /// There is none that can be defined.
     Refused(Refusal),
@@ -31,11 +31,11 @@ pub enum LineClass {
 #[derive(Drop)]
 pub struct Known {
     pub line: LineBuffer,
-    /// Nothing, before it is prepared.
+    /// `None` before it is prepared.
     pub class: Option<LineClass>,
 }
 
-/// A line that is read ahead. A class that is known is its own.
+/// A line that is read ahead. If its class is known, it is the class of this line.
 #[derive(Drop)]
 pub struct LineAhead {
     known: Known,
@@ -66,7 +66,7 @@ impl LineAhead {
     fn prepare(&mut self, alloc: Global)
         ensures { self.new.line ≡ self.old.line }
     {
-        let class = match self.known.line.question() {
+        let class = match self.known.line.request() {
             Some(Line::Define(_, digits)) => Some(class_of(alloc, digits)),
             _ => None,
         };
@@ -115,8 +115,8 @@ pub struct Batch {
 }
 
 impl Batch {
-    /// Reads the lines that the reader shows whole, or else one line: it waits for the first line
-    /// alone.
+    /// Reads the lines that the reader has buffered whole, or else one line: it waits only for the
+    /// first line.
     pub fn read<R: BufRead>(alloc: Global, reader: &mut R) -> Batch {
         let mut lines = Vec::new(alloc);
         let more = match count_shown(reader) {
@@ -126,7 +126,7 @@ impl Batch {
         Batch { lines, more }
     }
 
-    /// Prepares the classes that the lines define, in this many threads at most.
+    /// Prepares the classes that the lines define, in at most this many threads.
     pub fn prepare<T: Threads + Sync>(&mut self, rt: &T, alloc: Global, workers: usize)
         requires { 0 < workers }
     {
@@ -139,7 +139,7 @@ impl Batch {
     }
 }
 
-/// How many lines to read: those that the reader shows whole, and at least one.
+/// How many lines to read: those that the reader has buffered whole, and at least one.
 fn count_shown<R: BufRead>(reader: &mut R) -> Result<usize, LineFault> {
     match reader.fill_buf() {
         Ok(shown) => Ok(count_newlines(shown).clamp(1, MOST_LINES)),
@@ -152,7 +152,7 @@ fn count_newlines(bytes: &[u8]) -> usize {
     bytes.iter().filter(|byte| **byte == b'\n').count()
 }
 
-/// Reads this many lines, if there are as many. Those before an `Err` are there.
+/// Reads this many lines, if there are as many. The lines before an `Err` are kept.
 fn read_lines<R: BufRead>(
     alloc: Global,
     reader: &mut R,

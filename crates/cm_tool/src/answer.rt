@@ -1,4 +1,4 @@
-//! The answer of a cache to a line.
+//! The reply of a cache to a line.
 
 ghost use Rattle.std.specs.Prelude.{◌≡◌, ℕ, true, List, Some, Ok, IfOk};
 ghost use Rattle.std.specs.Option.{option_map};
@@ -6,49 +6,49 @@ ghost use Rattle.hex.specs.Hex.{decode_of};
 ghost use Rattle.hex.specs.declared.error.FromHexError.TheVariants.{OutOfMemory};
 ghost use Rattle.cm_class.specs.declared.class_file.ClassFile.{ClassFile};
 ghost use Rattle.cm_record.specs.Layout.{lay};
-ghost use Rattle.cm_rules.specs.Answer.{IsRight};
+ghost use Rattle.cm_rules.specs.Answer.{SpellsRightClass};
 ghost use Rattle.cm_lines.specs.Lines.{Asked, seen, AsksDefine, AsksFind};
-ghost use Rattle.cm_prepare.specs.Commands.{change_asked};
+ghost use Rattle.cm_commands.specs.Commands.{change_asked};
 ghost use Rattle.cm_session.specs.Storing.{refusal_told};
 ghost use Rattle.cm_tool.specs.Texts.{number_reply, defined_reply, refusal_reply};
 ghost use Rattle.cm_tool.specs.Replies.{IsReply};
-ghost use Rattle.cm_tool.specs.Serving.{Serves, IsAskedBy, Tells};
+ghost use Rattle.cm_tool.specs.Serving.{Serves, IsAskedBy, ReportsStored};
 
 use crate::Reply;
+use cm_commands::{Command, Names, Prepared, Refusal, prepare};
 use cm_disk::Disk;
 use cm_lines::{Line, NameFault, unescape};
-use cm_prepare::{Command, Names, Prepared, Refusal, prepare};
 use cm_record::{layout_determines_class, words_tell_name};
 use cm_session::{NotStored, Session};
 use hex::FromHexError;
 use std::alloc::{AllocError, Global};
 
-/// Runs what a line asks for, and makes its reply. An `Err` says that an allocation failed: for the
+/// Runs a line's request and makes its reply. An `Err` says that an allocation failed: for the
 /// reply, or before anything was done.
 pub fn answer<D: Disk>(
     alloc: Global,
     session: &mut Session<D>,
-    question: Option<Line<'_>>,
+    request: Option<Line<'_>>,
 ) -> Result<Reply, AllocError>
-    ensures machine { Serves D.view (option_map seen question.entry) result session.old
+    ensures machine { Serves D.view (option_map seen request.entry) result session.old
         session.new }
     ensures sizes { session.new.committer.sizes ≡ session.old.committer.sizes }
 {
-    match question {
-        Some(line) => answer_question(alloc, session, line),
+    match request {
+        Some(line) => answer_request(alloc, session, line),
         None => Reply::bad_line(alloc),
     }
 }
 
-fn answer_question<D: Disk>(
+fn answer_request<D: Disk>(
     alloc: Global,
     session: &mut Session<D>,
-    question: Line<'_>,
+    request: Line<'_>,
 ) -> Result<Reply, AllocError>
-    ensures machine { Serves D.view (Some (seen question.entry)) result session.old session.new }
+    ensures machine { Serves D.view (Some (seen request.entry)) result session.old session.new }
     ensures sizes { session.new.committer.sizes ≡ session.old.committer.sizes }
 {
-    match question {
+    match request {
         Line::Loader(name) => answer_number(alloc, session, Command::AddLoader(name)),
         Line::Unload(name) => answer_number(alloc, session, Command::Unload(name)),
         Line::Tighten(name) => answer_number(alloc, session, Command::Tighten(name)),
@@ -66,8 +66,8 @@ fn answer_number<D: Disk>(
     session: &mut Session<D>,
     command: Command<'_>,
 ) -> Result<Reply, AllocError>
-    ensures machine { (question : Asked) → IsAskedBy question (change_asked command.entry)
-        → Serves D.view (Some question) result session.old session.new }
+    ensures machine { (request : Asked) → IsAskedBy request (change_asked command.entry)
+        → Serves D.view (Some request) result session.old session.new }
     ensures sizes { session.new.committer.sizes ≡ session.old.committer.sizes }
 {
     let stored = session.store(command);
@@ -76,7 +76,7 @@ fn answer_number<D: Disk>(
 
 /// The reply to a command whose reply is just its number once it is done.
 fn tell_number(alloc: Global, stored: Result<u64, NotStored>) -> Result<Reply, AllocError>
-    ensures { Tells number_reply stored result }
+    ensures { ReportsStored number_reply stored result }
 {
     match stored {
         Ok(number) => Reply::ok(alloc, number),
@@ -142,7 +142,7 @@ fn define_class<D: Disk>(
     class: Prepared,
 ) -> Result<Reply, AllocError>
     ensures machine { (digits bytes : List ℕ) (c : ClassFile) → decode_of digits ≡ Ok bytes
-        → IsRight bytes c → class ≡ lay c
+        → SpellsRightClass bytes c → class ≡ lay c
         → Serves D.view (Some (AsksDefine loader.now digits)) result session.old session.new }
     ensures sizes { session.new.committer.sizes ≡ session.old.committer.sizes }
 {
@@ -162,7 +162,7 @@ fn tell_class(
     stored: Result<u64, NotStored>,
     name: &[u8],
 ) -> Result<Reply, AllocError>
-    ensures { Tells (λ n. defined_reply n name.now) stored result }
+    ensures { ReportsStored (λ n. defined_reply n name.now) stored result }
 {
     match stored {
         Ok(number) => Reply::ok_class(alloc, number, name),

@@ -1,11 +1,11 @@
-//! Scripts on the cache that stands on a disk.
+//! Runs scripts on the cache of a disk.
 
 ghost use Rattle.std.specs.Prelude.{IfOk, IfErr};
 ghost use Rattle.cm_guards.specs.Calls.{LeavesOnly};
 ghost use Rattle.cm_lines.specs.Streams.{io};
 ghost use Rattle.cm_tool.specs.Runs.{IsAnswered};
 ghost use Rattle.cm_tool.specs.Serving.{medium};
-ghost use Rattle.cm_tool.specs.Applied.{RunsFromOpened, IsStopped};
+ghost use Rattle.cm_tool.specs.Applied.{RunsFromOpened, ApplyStops};
 
 use crate::script::{Outcome, ToolFault, run_to_end};
 use cm_disk::Disk;
@@ -26,14 +26,14 @@ pub enum ApplyFault {
 }
 
 /// Opens the cache on a disk, and runs a script on it: reads its lines, and writes the reply to
-/// each as soon as it is there. A command's `ok` is written once the command is stored.
+/// each as soon as it is made. A command's `ok` is written once the command is durable.
 ///
 /// A crash at any moment of a line leaves all that was acknowledged before that line, and nothing
-/// that wasn't handed out by its end; while the cache is opened, what it might have left before,
-/// or, if a file of an older version is upgraded, what stands for the same cache.
+/// that wasn't handed out by its end. While the cache is opened, a crash leaves what it might have
+/// left before or, if a file of version 1 is upgraded, what stands for the same cache.
 ///
-/// The disk is handed back in any case. After `Open` it stands for what it stood for; after
-/// `Script` all that was acknowledged is stored.
+/// The disk is handed back in any case. After `Open` it stands for what it stood for before; after
+/// `Script` all that was acknowledged is durable.
 pub fn apply_script<R: BufRead, W: Write, D: Disk>(
     alloc: Global,
     reader: &mut R,
@@ -47,7 +47,7 @@ pub fn apply_script<R: BufRead, W: Write, D: Disk>(
         (λ sizes old new. IsAnswered (LeavesOnly D.view) sizes
         (io (R.remaining reader.old) (W.contents writer.old) (W.contents writer.new))
         outcome old new)) }
-    ensures err { IfErr result.0 (IsStopped (LeavesOnly D.view) disk result.1
+    ensures err { IfErr result.0 (ApplyStops (LeavesOnly D.view) disk result.1
         (io (R.remaining reader.old) (W.contents writer.old) (W.contents writer.new))
         (medium D.view disk)
         (medium D.view result.1)) }

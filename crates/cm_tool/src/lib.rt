@@ -1,4 +1,4 @@
-//! Scripts on a cache: lines that are read, run and answered one after another, and the replies.
+//! Scripts on a cache: lines are read and run, and their replies written, one after another.
 #![tactic(auto)]
 
 mod ahead;

@@ -1,4 +1,4 @@
-//! The lines that answer a script's lines.
+//! The replies to a script's lines.
 
 ghost use Rattle.std.specs.Prelude.{◌≡◌, ◌++◌, length, IfOk, OnOk};
 ghost use Rattle.cm_class.specs.declared.class_file.ClassFile.{ClassFile};
@@ -9,8 +9,8 @@ ghost use Rattle.cm_tool.specs.Texts.{bad_line_reply};
 ghost use Rattle.cm_tool.specs.Replies.{IsReply};
 
 use crate::texts::{push_flags, push_number, text, word_with_number};
+use cm_commands::Refusal;
 use cm_lines::escape_into;
-use cm_prepare::Refusal;
 use cm_record::Record;
 use std::alloc::{AllocError, Global};
 
@@ -50,7 +50,7 @@ impl Reply {
         end(ReplyKind::Done, line)
     }
 
-    /// `class CLASS flags HHHH super S words W`: under this name this class is found.
+    /// `class CLASS flags HHHH super S words W`: this class is found under this name.
     pub fn class(alloc: Global, name: &[u8], class: &Record) -> Result<Reply, AllocError>
         ensures given { (c : ClassFile) → IsRecordOf c class.now
             → IfOk result (IsReply (class_reply name.now c (length class.now))) }
@@ -77,7 +77,7 @@ impl Reply {
         end(ReplyKind::Done, text(alloc, b"none")?)
     }
 
-    /// `refused K TEXT`, and `unsure N` of an unsure command. Of a class that breaks a rule, the
+    /// `refused K TEXT`, and `unsure N` for an unsure command. For a class that breaks a rule, the
     /// text is `V`, the rule's number and the place.
     pub fn refused(alloc: Global, refusal: Refusal) -> Result<Reply, AllocError>
         ensures { IfOk result (IsReply (refusal_reply refusal)) }
@@ -96,7 +96,7 @@ impl Reply {
         Reply::refused(alloc, Refusal::Unsure(number))
     }
 
-    /// `refused 15 line`: the line has no known form.
+    /// `refused 15 line`: the line has none of the known forms.
     pub fn bad_line(alloc: Global) -> Result<Reply, AllocError>
         ensures { IfOk result (IsReply bad_line_reply) }
     {
@@ -104,7 +104,7 @@ impl Reply {
     }
 }
 
-/// `refused K TEXT` of this number and text.
+/// `refused K TEXT` with this number and text.
 fn refusal_line(alloc: Global, number: u8, why: &[u8]) -> Result<Reply, AllocError>
     ensures { IfOk result (IsReply (refused_reply number why.now)) }
 {
@@ -114,7 +114,7 @@ fn refusal_line(alloc: Global, number: u8, why: &[u8]) -> Result<Reply, AllocErr
     end(ReplyKind::Refused, line)
 }
 
-/// The reply of a line without its newline.
+/// The reply made of a line without its newline.
 fn end(kind: ReplyKind, mut line: Vec<u8>) -> Result<Reply, AllocError>
     ensures { IfOk result (IsReply (record { kind = kind; text = line.items })) }
 {

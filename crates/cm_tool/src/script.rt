@@ -1,14 +1,15 @@
-//! Scripts: lines that are read, run and answered one after another.
+//! Scripts: lines are read and run, and their replies written, one after another.
 
 ghost use Rattle.std.specs.Prelude.{◌≡◌, ◌||◌, IfOk, IfErr};
 ghost use Rattle.cm_guards.specs.Calls.{LeavesOnly};
-ghost use Rattle.cm_machine.specs.Machine.{Machine};
-ghost use Rattle.cm_session.specs.Moves.{GoesWith};
+ghost use Rattle.cm_commands.specs.Machine.{Machine};
+ghost use Rattle.cm_session.specs.Moves.{SessionMatches};
 ghost use Rattle.cm_lines.specs.Streams.{io};
 ghost use Rattle.cm_tool.specs.Replies.{is_refused, is_unsure};
 ghost use Rattle.cm_tool.specs.Answers.{Served, served, pause};
-ghost use Rattle.cm_tool.specs.Runs.{fault_of, Turns, IsRun};
-ghost use Rattle.cm_tool.specs.Serving.{IsReady, Proceeds, GoesOn, MayGoOn, medium, LeavesDisk};
+ghost use Rattle.cm_tool.specs.Runs.{fault_of, TakesTurn, IsRun};
+ghost use Rattle.cm_tool.specs.Serving.{IsReady, ServesFrom, Progresses, MayProgress, medium};
+ghost use Rattle.cm_tool.specs.Serving.{LeavesDisk};
 
 use crate::ReplyKind;
 use crate::answer::answer;
@@ -19,7 +20,7 @@ use std::alloc::Global;
 use std::io::{BufRead, Write};
 use thiserror::Error;
 
-/// What a script came to.
+/// The result of a script.
 #[derive(Clone, Copy, Debug, PartialEq, Eq)]
 pub struct Outcome {
     /// Some line was refused.
@@ -67,22 +68,22 @@ impl Outcome {
     }
 }
 
-/// Runs a script on a session in which everything accepted is stored: reads its lines, and writes
-/// the reply to each as soon as it is there.
+/// Runs a script on a session in which everything accepted is durable: reads its lines, and writes
+/// the reply to each as soon as it is made.
 ///
-/// A line ends at a newline; a rest that isn't empty is a line too. The run ends at an unsure
-/// command, since no further one would be accepted. It is an `Err` if the reader fails
-/// (`Input`), if the writer does (`Output`), or if an allocation failed for a line or a reply
-/// (`NoMemory`): what was acknowledged is stored.
+/// A line ends at a newline; the last newline is optional. The run ends at an unsure command, since
+/// no further one would be accepted. It is an `Err` if the reader fails (`Input`), if the writer
+/// fails (`Output`), or if an allocation failed for a line or a reply (`NoMemory`): what was
+/// acknowledged is durable.
 pub fn run_script<R: BufRead, W: Write, D: Disk>(
     alloc: Global,
     reader: &mut R,
     writer: &mut W,
     session: &mut Session<D>,
 ) -> Result<Outcome, ToolFault>
-    ensures machine { Proceeds D.view (IsRun (LeavesOnly D.view) session.old.committer.sizes
+    ensures machine { ServesFrom D.view (IsRun (LeavesOnly D.view) session.old.committer.sizes
         (io (R.remaining reader.old) (W.contents writer.old) (W.contents writer.new)) result)
-        (λ k next. GoesWith next session.new) session.old session.new }
+        (λ k next. SessionMatches next session.new) session.old session.new }
     ensures sizes { session.new.committer.sizes ≡ session.old.committer.sizes }
 {
     let mut line = LineBuffer::new(alloc);
@@ -106,15 +107,15 @@ pub fn run_script<R: BufRead, W: Write, D: Disk>(
     Err(ToolFault::Input)
 }
 
-/// Runs a script on a session in which everything accepted is stored, and hands back its disk,
-/// whatever came of the script.
+/// Runs a script on a session in which everything accepted is durable, and hands back its disk,
+/// whatever the result of the script.
 pub fn run_to_end<R: BufRead, W: Write, D: Disk>(
     alloc: Global,
     reader: &mut R,
     writer: &mut W,
     session: Session<D>,
 ) -> (Result<Outcome, ToolFault>, D)
-    ensures { (k : Machine) → GoesWith k session → IsReady k
+    ensures { (k : Machine) → SessionMatches k session → IsReady k
         → (new : Served)
         × IsRun (LeavesOnly D.view) session.committer.sizes
         (io (R.remaining reader.old) (W.contents writer.old) (W.contents writer.new)) result.0
@@ -137,9 +138,10 @@ fn run_line<R: BufRead, W: Write, D: Disk>(
     session: &mut Session<D>,
     line: &mut LineBuffer,
 ) -> Result<Option<ReplyKind>, ToolFault>
-    ensures machine { Proceeds D.view (Turns session.old.committer.sizes (R.remaining reader.new)
+    ensures machine { ServesFrom D.view
+        (TakesTurn session.old.committer.sizes (R.remaining reader.new)
         (io (R.remaining reader.old) (W.contents writer.old) (W.contents writer.new)) result)
-        (λ k. GoesOn D.view k session.old session.new) session.old session.new }
+        (λ k. Progresses D.view k session.old session.new) session.old session.new }
     ensures sizes { session.new.committer.sizes ≡ session.old.committer.sizes }
 {
     let turned = take_line(alloc, reader, writer, session, line);
@@ -155,9 +157,10 @@ fn take_line<R: BufRead, W: Write, D: Disk>(
     session: &mut Session<D>,
     line: &mut LineBuffer,
 ) -> Result<Option<ReplyKind>, ToolFault>
-    ensures machine { Proceeds D.view (Turns session.old.committer.sizes (R.remaining reader.new)
+    ensures machine { ServesFrom D.view
+        (TakesTurn session.old.committer.sizes (R.remaining reader.new)
         (io (R.remaining reader.old) (W.contents writer.old) (W.contents writer.new)) result)
-        (λ k. MayGoOn D.view k session.old session.new) session.old session.new }
+        (λ k. MayProgress D.view k session.old session.new) session.old session.new }
     ensures sizes { session.new.committer.sizes ≡ session.old.committer.sizes }
 {
     match read_line(reader, line) {
@@ -165,8 +168,8 @@ fn take_line<R: BufRead, W: Write, D: Disk>(
         Ok(false) => return Ok(None),
         Err(fault) => return Err(ToolFault::from(fault)),
     }
-    let question = line.question();
-    let reply = match answer(alloc, session, question) {
+    let request = line.request();
+    let reply = match answer(alloc, session, request) {
         Ok(reply) => reply,
         Err(_) => return Err(ToolFault::NoMemory),
     };

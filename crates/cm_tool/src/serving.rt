@@ -1,10 +1,10 @@
-//! Lines that are answered by a cache that runs.
+//! Scripts on a running cache.
 
 ghost use Rattle.std.specs.Prelude.{◌≡◌, ◌<◌, ℕ, List, IfOk, IfSome};
 ghost use Rattle.std.specs.Io.KnownBytes.{Appends};
 ghost use Rattle.hex.specs.Hex.{decode_of};
 ghost use Rattle.cm_lines.specs.Lines.{asked_by};
-ghost use Rattle.cm_lines.specs.Streams.{Holds};
+ghost use Rattle.cm_lines.specs.Streams.{HoldsLine};
 ghost use Rattle.cm_lines.specs.Escapes.{unescaped};
 ghost use Rattle.cm_cache.specs.Shared.{PassState};
 ghost use Rattle.cm_tool.specs.Texts.{ReplyText, number_reply, defined_reply};
@@ -16,15 +16,15 @@ use crate::ahead::{Batch, Known, LineAhead, LineClass, class_of};
 use crate::script::{Outcome, ToolFault};
 use crate::{Reply, ReplyKind};
 use cm_cache::{Cache, Naming, Pass};
+use cm_commands::{Names, Refusal};
 use cm_lines::{Line, NameFault, unescape, write_line};
-use cm_prepare::{Names, Refusal};
 use std::alloc::{AllocError, Global};
 use std::io::{BufRead, Write};
 use std::sync::Wait;
 use std::thread::Threads;
 
-/// Runs a script on a cache that runs: reads lines ahead, has their classes prepared by this many
-/// threads, and answers them in order.
+/// Runs a script on a running cache: reads lines ahead, has their classes prepared by this many
+/// threads, and replies to them in order.
 pub fn serve<K, T, R, W>(
     rt: &T,
     alloc: Global,
@@ -56,7 +56,7 @@ where
     unreachable!()
 }
 
-/// Answers lines in order, up to the first that is left unsure. Whether one was refused.
+/// Replies to lines in order, up to the first that is left unsure. Returns whether one was refused.
 fn answer_all<K: Naming, T: Wait, W: Write>(
     rt: &T,
     alloc: Global,
@@ -76,7 +76,7 @@ fn answer_all<K: Naming, T: Wait, W: Write>(
     Ok(refused)
 }
 
-/// Answers a line, and writes the reply.
+/// Runs a line, and writes the reply.
 fn answer_line<K: Naming, T: Wait, W: Write>(
     rt: &T,
     alloc: Global,
@@ -85,7 +85,7 @@ fn answer_line<K: Naming, T: Wait, W: Write>(
     pass: &mut Pass<K>,
     line: LineAhead,
 ) -> Result<ReplyKind, ToolFault>
-    ensures { (text : List ℕ) → Holds text line.line
+    ensures { (text : List ℕ) → HoldsLine text line.line
         → IfOk result (λ kind. (given : ReplyText) × (kind ≡ given.kind)
         × RepliesToAsked (asked_by text) pass.old given pass.new
         × Appends (W.contents writer.old) (W.contents writer.new) (reply_line given)) }
@@ -100,7 +100,7 @@ fn answer_line<K: Naming, T: Wait, W: Write>(
     }
 }
 
-/// The reply to a line, once the cache has done what it asks for. An `Err` says that an allocation
+/// The reply to a line, once the cache has done what it requests. An `Err` says that an allocation
 /// failed for it.
 fn answer<K: Naming, T: Wait>(
     rt: &T,
@@ -110,12 +110,12 @@ fn answer<K: Naming, T: Wait>(
     known: Known,
 ) -> Result<Reply, AllocError>
     requires { IsItsClass known }
-    ensures { (text : List ℕ) → Holds text known.line
+    ensures { (text : List ℕ) → HoldsLine text known.line
         → IfOk result (λ reply. (given : ReplyText) × IsReply given reply
         × RepliesToAsked (asked_by text) pass.old given pass.new) }
 {
     let Known { line, class } = known;
-    match line.question() {
+    match line.request() {
         Some(Line::Loader(name)) => tell_number(alloc, cache.add_loader(rt, pass, name)),
         Some(Line::Unload(name)) => tell_number(alloc, cache.unload(rt, pass, name)),
         Some(Line::Tighten(name)) => tell_number(alloc, cache.tighten(rt, pass, name)),

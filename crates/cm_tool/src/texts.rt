@@ -1,4 +1,4 @@
-//! What replies are put together from: words and numbers.
+//! Words and numbers, of which replies are made.
 
 ghost use Rattle.std.specs.Prelude.{◌≡◌, ◌<◌, ◌++◌, IfOk, OnOk};
 ghost use Rattle.std.specs.Fmt.{decimal};

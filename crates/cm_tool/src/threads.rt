@@ -31,10 +31,10 @@ use std::thread::Threads;
 /// The classes that they define are prepared ahead by this many threads, and one more thread stores
 /// what is accepted.
 ///
-/// Lines are read ahead as far as the reader shows them without waiting.
+/// Lines are read ahead only as far as the reader has them buffered, without waiting.
 ///
-/// The disk is given up if a thread can't be started, or an allocation fails for what threads
-/// share (`NoMemory`); it can be opened again. Else it is handed back.
+/// The disk is dropped if a thread can't be started, or an allocation fails for what threads share
+/// (`NoMemory`); its cache can be opened again. Otherwise the disk is handed back.
 pub fn apply_threads<T, R, W, D>(
     rt: &T,
     alloc: Global,
@@ -76,7 +76,7 @@ where
     }
 }
 
-/// Runs a script on a cache that is started for it, and closes that.
+/// Runs a script on a cache that is started for it, and closes the cache.
 fn run<K, T, R, W, D>(
     rt: &T,
     alloc: Global,
@@ -116,7 +116,7 @@ where
     (result, Some(disk))
 }
 
-/// Runs a script through a pass of its own, which is given back.
+/// Runs a script through a pass of its own, which is handed back.
 fn serve_by_pass<K, T, R, W>(
     rt: &T,
     alloc: Global,

@@ -7,12 +7,12 @@ use cm_tool::{ApplyFault, Outcome, apply_script};
 use std::alloc::Global;
 use std::test::*;
 
-/// A disk of the usual sizes that holds the empty cache.
+/// A disk of the default sizes that holds the empty cache.
 pub fn new_disk(alloc: Global) -> Result<SimDisk, Fail> {
     new_disk_of(alloc, 4_096)
 }
 
-/// One with this many slots in each half.
+/// The same with this many slots in each half.
 pub fn new_disk_of(alloc: Global, slots: u32) -> Result<SimDisk, Fail> {
     let geometry = Geometry::new(8, 64, slots).ok_or("a geometry")?;
     let mut disk = SimDisk::new(alloc);
@@ -22,7 +22,7 @@ pub fn new_disk_of(alloc: Global, slots: u32) -> Result<SimDisk, Fail> {
     Ok(disk)
 }
 
-/// The replies to a script on a disk, what it came to, and the disk.
+/// The replies to a script on a disk, its result, and the disk.
 pub fn replies<D: Disk>(
     alloc: Global,
     script: &[u8],
@@ -40,7 +40,7 @@ pub fn are_replies(alloc: Global, disk: SimDisk, script: &[u8], wanted: &[u8]) -
     written.as_slice() == wanted
 }
 
-/// Whether the cache on a disk has loader `a`, and one more is its second.
+/// Whether the cache on a disk has only loader `a`, so that one more is its second.
 pub fn has_one_loader(alloc: Global, disk: SimDisk) -> bool {
     let script = b"loader a\nloader another\n";
     are_replies(alloc, disk, script, b"refused 2 loader exists\nok 2\n")

@@ -1,4 +1,4 @@
-//! Tests of scripts: lines, readers, writers, failing disks, and what is told of caches.
+//! Tests of scripts: lines, readers, writers, failing disks, and what is reported about caches.
 #![tactic(auto)]
 
 #[cfg(test)]

@@ -66,14 +66,14 @@ fn other_lines_ask_for_nothing(rt: HostRuntime) -> Result<(), Fail> {
 
 const BAD_ESCAPES: [&[u8]; 6] = [b"%41", b"%", b"%C", b"a b", b"%g0", b"\x80"];
 
-/// Whether this text is written for a name.
+/// Whether a name is written as this text.
 fn is_escaped(alloc: Global, name: &[u8], text: &[u8]) -> Result<bool, Fail> {
     let mut written = Vec::new(alloc);
     escape_into(&mut written, name)?;
     Ok(written.as_slice() == text)
 }
 
-/// Whether this name is read from a text.
+/// Whether a text is read as this name.
 fn is_unescaped(alloc: Global, text: &[u8], name: &[u8]) -> bool {
     match unescape(alloc, text) {
         Ok(found) => found.as_slice() == name,

@@ -5,28 +5,28 @@ use std::alloc::Global;
 use std::io::{self, BufRead, BufReader, ErrorKind, Read};
 use std::test::*;
 
-/// Whether the next lines ask for this.
-fn asks<R: BufRead>(reader: &mut R, line: &mut LineBuffer, questions: &[Option<Line<'_>>]) -> bool {
-    for question in questions {
-        if read_line(reader, line) != Ok(true) || line.question() != *question {
+/// Whether the next lines make these requests.
+fn asks<R: BufRead>(reader: &mut R, line: &mut LineBuffer, requests: &[Option<Line<'_>>]) -> bool {
+    for request in requests {
+        if read_line(reader, line) != Ok(true) || line.request() != *request {
             return false;
         }
     }
     true
 }
 
-/// Whether a reader gives lines that ask for this, and then this answer.
+/// Whether a reader gives lines that make these requests, and then this result.
 fn gives<R: BufRead>(
     alloc: Global,
     reader: &mut R,
-    questions: &[Option<Line<'_>>],
+    requests: &[Option<Line<'_>>],
     end: Result<bool, LineFault>,
 ) -> bool {
     let mut line = LineBuffer::new(alloc);
-    asks(reader, &mut line, questions) && read_line(reader, &mut line) == end
+    asks(reader, &mut line, requests) && read_line(reader, &mut line) == end
 }
 
-/// What the lines ask for that are read in pieces.
+/// The requests of the lines that are read in pieces.
 const QUESTIONS: [Option<Line<'_>>; 4] = [
     Some(Line::Loader(b"app")),
     None,
@@ -51,14 +51,14 @@ fn push_long_script(script: &mut Vec<u8>, len: usize) -> Result<(), Fail> {
     Ok(())
 }
 
-/// Whether the first line of a script asks for something: none where its second doesn't unload a
+/// Whether the first line of a script is a request; `None` if its second line doesn't unload a
 /// loader, or isn't the last.
 fn first_asks(script: &[u8], line: &mut LineBuffer) -> Option<bool> {
     let mut reader = script;
     let is_read = read_line(&mut reader, line) == Ok(true);
-    let asks = line.question().is_some();
+    let asks = line.request().is_some();
     let is_next = is_read && read_line(&mut reader, line) == Ok(true);
-    let unloads = is_next && line.question() == Some(Line::Unload(b"b"));
+    let unloads = is_next && line.request() == Some(Line::Unload(b"b"));
     if unloads && read_line(&mut reader, line) == Ok(false) {
         Some(asks)
     } else {
@@ -66,7 +66,7 @@ fn first_asks(script: &[u8], line: &mut LineBuffer) -> Option<bool> {
     }
 }
 
-/// Whether a line of this many bytes asks for something.
+/// Whether a line of this many bytes is a request.
 fn long_line_asks(alloc: Global, len: usize) -> Result<Option<bool>, Fail> {
     let mut script = Vec::new(alloc);
     push_long_script(&mut script, len)?;
@@ -81,7 +81,7 @@ fn a_line_has_at_most_16777216_bytes(rt: HostRuntime) -> Result<(), Fail> {
     Ok(())
 }
 
-/// Is interrupted before each time that it gives its bytes, and fails after them.
+/// Is interrupted each time before it gives its bytes, and fails after them.
 #[derive(Drop)]
 struct FailingReader<'a> {
     bytes: &'a [u8],
@@ -120,7 +120,7 @@ fn a_reader_that_fails_in_mid_line_gives_no_line(rt: HostRuntime) -> Result<(), 
         bytes: b"loader a\nloader b",
         was_interrupted: false,
     };
-    let questions = [Some(Line::Loader(b"a"))];
-    assert!(rt; gives(rt.alloc(), &mut reader, &questions, Err(LineFault::Input)));
+    let requests = [Some(Line::Loader(b"a"))];
+    assert!(rt; gives(rt.alloc(), &mut reader, &requests, Err(LineFault::Input)));
     Ok(())
 }

@@ -1,4 +1,4 @@
-//! Writers that take part of a line, are interrupted, hold back or fail.
+//! Writers that take part of a line, are interrupted, buffer it or fail.
 
 use cm_lines::{LineFault, write_line};
 use std::alloc::Global;
@@ -55,7 +55,7 @@ impl Write for NarrowWriter {
     }
 }
 
-/// Whether this comes of a line, and the writer has these bytes then.
+/// Whether writing a line has this result, and the writer then has these bytes.
 fn takes(writer: &mut NarrowWriter, answer: Result<(), LineFault>, bytes: &[u8]) -> bool {
     write_line(writer, b"ok 1\n") == answer && writer.bytes.as_slice() == bytes
 }
@@ -77,7 +77,7 @@ fn a_writer_that_fails_or_takes_nothing_has_a_beginning(rt: HostRuntime) -> Resu
     Ok(())
 }
 
-/// Takes everything, and can't pass it on.
+/// Takes everything, and can't flush it.
 #[derive(Drop)]
 pub struct StuckWriter;
 

@@ -9,7 +9,7 @@ use std::alloc::Global;
 use std::io::Write;
 use std::test::*;
 
-/// The class `A` of `java/lang/Object` up to the length of its name, and from after its name on.
+/// The class `A` of `java/lang/Object` up to the length of its name, and what follows its name.
 const CLASS: (&[u8], &[u8]) = (
     b"cafebabe0000003400050700020100",
     b"0700040100106a6176612f6c616e672f4f626a6563740021000100030000000000000000",
@@ -25,7 +25,7 @@ pub fn empty_cache(alloc: Global) -> Result<SimDisk, Fail> {
     Ok(disk)
 }
 
-/// A script in which `<` and `>` stand for what is around the length and the name of a class.
+/// A script in which `<` and `>` stand for what surrounds the length and the name of a class.
 fn expand(alloc: Global, script: &[u8]) -> Result<Vec<u8>, Fail> {
     let mut text = Vec::new(alloc);
     for byte in script {
@@ -60,7 +60,7 @@ fn change(disk: &mut SimDisk, at: u64, byte: u8) -> Result<(), DeviceFault> {
     Ok(())
 }
 
-/// A disk with the empty cache but for one byte.
+/// A disk with the empty cache, except for one byte.
 pub fn changed_cache(alloc: Global, at: u64, byte: u8) -> Result<SimDisk, Fail> {
     let mut disk = empty_cache(alloc)?;
     change(&mut disk, at, byte)?;
@@ -81,7 +81,7 @@ pub fn shortened_cache(alloc: Global, len: u64) -> Result<SimDisk, Fail> {
     Ok(disk)
 }
 
-/// What is told of a disk.
+/// What is reported about a disk.
 #[derive(Clone, Copy)]
 pub enum Verb {
     Check,
@@ -102,7 +102,7 @@ pub fn tell<W: Write, D: Disk>(
     }
 }
 
-/// The status and the disk of what was told to the end.
+/// The status and the disk of a report that was written to its end.
 pub fn tell_to_end<D: Drop>(
     told: Result<(Status, D), NotReported<D>>,
 ) -> Result<(Status, D), Fail> {
@@ -117,7 +117,7 @@ pub fn tell_to_end<D: Drop>(
     }
 }
 
-/// Whether these lines were to be told with the status, or that the device failed, if it did.
+/// Whether these lines should be written with the status or, if the device failed, that it did.
 fn is_due(status: Status, told: &[u8], lines: &[u8]) -> bool {
     match status {
         Status::Failed => told == b"device\n".as_slice(),
@@ -125,8 +125,8 @@ fn is_due(status: Status, told: &[u8], lines: &[u8]) -> bool {
     }
 }
 
-/// The status of what is told of a disk, whether it is these lines or that the device failed, and
-/// the disk.
+/// The status of a report on a disk, whether it is these lines or that the device failed, and the
+/// disk.
 pub fn status_of<D: Disk + Drop>(
     alloc: Global,
     verb: Verb,

@@ -1,4 +1,4 @@
-//! What is told of files that aren't opened.
+//! Reports on files that aren't opened.
 
 use crate::maintenance_disks::{
     Verb, cache_after, changed_cache, empty_cache, shortened_cache, status_of,
@@ -8,13 +8,13 @@ use cm_maintenance::Status;
 use std::alloc::Global;
 use std::test::*;
 
-/// Whether this line is told of a disk, and that it is refused.
+/// Whether this line is reported about a disk, with the status for a refusal.
 fn is_refused(alloc: Global, verb: Verb, disk: SimDisk, line: &[u8]) -> Result<bool, Fail> {
     let (status, is_told, _disk) = status_of(alloc, verb, disk, line)?;
     Ok(status == Status::Refused && is_told)
 }
 
-/// A byte of the empty cache, what stands in its place, and what is told then.
+/// The position of a byte of the empty cache, its new value, and what is then reported.
 const CHANGES: [(u64, u8, &[u8]); 8] = [
     // the first bytes, and the gate of the superblock
     (0, b'c', b"not a cache\n"),
@@ -26,7 +26,7 @@ const CHANGES: [(u64, u8, &[u8]); 8] = [
     // the gate of the half's head, and its count of live slots
     (4_096, 0, b"damaged 3 0\n"),
     (4_100, 255, b"damaged 4 0\n"),
-    // the gate of a group whose head isn't there
+    // the gate of a group whose head is missing
     (4_160, 0xA5, b"damaged 4 1\n"),
 ];
 
@@ -42,7 +42,7 @@ fn damaged_files_are_refused(rt: HostRuntime) -> Result<(), Fail> {
     Ok(())
 }
 
-/// The length of the beginning of a cache, and what is told of it.
+/// The length of the beginning of a cache, and what is reported about it.
 const BEGINNINGS: [(u64, &[u8]); 4] = [
     (0, b"not a cache\n"),
     (4_095, b"not a cache\n"),
@@ -62,15 +62,15 @@ fn short_files_are_refused(rt: HostRuntime) -> Result<(), Fail> {
     Ok(())
 }
 
-/// The status of what is told of a cache of one class if the device fails after this many calls,
-/// and whether it is these lines or that the device failed.
+/// The status of a report on a cache of one class if the device fails after this many calls, and
+/// whether it is these lines or that the device failed.
 fn tell_behind(alloc: Global, verb: Verb, pass: u64, lines: &[u8]) -> Result<(Status, bool), Fail> {
     let disk = cache_after(alloc, b"loader app\ndefine app <0141>\n")?;
     let (status, is_told, _disk) = status_of(alloc, verb, FuseDisk::new(disk, pass, 0), lines)?;
     Ok((status, is_told))
 }
 
-/// The device fails at one call after another, until all pass.
+/// The device fails at one call after another, until all succeed.
 #[test]
 fn a_failing_device_is_told(rt: HostRuntime) -> Result<(), Fail> {
     let alloc = rt.alloc();
@@ -91,7 +91,7 @@ fn a_failing_device_is_told(rt: HostRuntime) -> Result<(), Fail> {
     Err("no run met no failure".into())
 }
 
-/// The status of a check of a disk that fails, and that of one when it doesn't fail any more.
+/// The status of a check of a disk that fails, and that of a check when it no longer fails.
 fn check_twice(alloc: Global, disk: FuseDisk) -> Result<[Status; 2], Fail> {
     let (failed, _, disk) = status_of(alloc, Verb::Check, disk, b"")?;
     let mut disk = disk.into_inner();

@@ -1,4 +1,4 @@
-//! Writers that take a part, or can't pass on what they took.
+//! Writers that take a part, or can't flush what they took.
 
 use crate::line_writers::StuckWriter;
 use crate::maintenance_disks::{Verb, cache_after, tell, tell_to_end};
@@ -8,7 +8,7 @@ use std::alloc::Global;
 use std::io::{self, ErrorKind, Write};
 use std::test::*;
 
-/// Takes one byte at a time, this many in all, and fails then.
+/// Takes one byte at a time, this many in all, and then fails.
 #[derive(Drop)]
 struct NarrowWriter {
     bytes: Vec<u8>,
@@ -45,7 +45,7 @@ fn narrow(alloc: Global, room: usize) -> NarrowWriter {
     }
 }
 
-/// Why nothing was told to the end, and the disk.
+/// Why a report wasn't written to its end, and the disk.
 fn tell_to_failing(
     told: Result<(Status, SimDisk), NotReported<SimDisk>>,
 ) -> Result<(MaintenanceFault, SimDisk), Fail> {
@@ -55,7 +55,7 @@ fn tell_to_failing(
     }
 }
 
-/// Whether what is told into so much room fails after the beginning of a text, and the disk.
+/// Whether a report written to this much room fails after the beginning of a text, and the disk.
 fn is_cut(
     alloc: Global,
     verb: Verb,
@@ -69,7 +69,7 @@ fn is_cut(
     Ok((fault == MaintenanceFault::Output && is_beginning, disk))
 }
 
-/// Whether rooms for so much of a report and of a list cut both short, and the disk.
+/// Whether this much room for a report and for a list cuts both short, and the disk.
 fn are_both_cut(
     alloc: Global,
     disk: SimDisk,
@@ -81,7 +81,7 @@ fn are_both_cut(
     Ok((check && list, disk))
 }
 
-/// How many of the 40 rooms that are less than the list takes cut both short.
+/// How many of the 40 amounts of room that are less than the list takes cut both short.
 fn rooms_that_cut(alloc: Global, disk: SimDisk) -> Result<u32, Fail> {
     let mut disk = disk;
     let mut cuts = 0;
@@ -101,7 +101,7 @@ fn a_writer_that_fails_has_a_beginning(rt: HostRuntime) -> Result<(), Fail> {
     Ok(())
 }
 
-/// Whether what is told into room for a text is the text, and the disk.
+/// Whether a report written to room for a text is the text, and the disk.
 fn is_whole(
     alloc: Global,
     verb: Verb,
@@ -133,7 +133,7 @@ fn a_fault_that_is_not_written_is_no_status(rt: HostRuntime) -> Result<(), Fail>
     Ok(())
 }
 
-/// Why a check and a list of a disk aren't passed on.
+/// Why a check and a list of a disk aren't flushed.
 fn stuck_faults(alloc: Global, disk: SimDisk) -> Result<[MaintenanceFault; 2], Fail> {
     let (check, disk) = tell_to_failing(tell(alloc, Verb::Check, &mut StuckWriter, disk))?;
     let (list, _disk) = tell_to_failing(tell(alloc, Verb::List, &mut StuckWriter, disk))?;

@@ -101,7 +101,7 @@ const CASES: [(&[u8], &[u8]); 14] = [
     ),
 ];
 
-/// What a script comes to on a new disk, and whether these are the replies.
+/// The result of a script on a new disk, and whether these are the replies.
 fn answer_to(
     alloc: Global,
     script: &[u8],
@@ -159,7 +159,7 @@ fn a_second_script_goes_on_where_the_first_ended(rt: HostRuntime) -> Result<(), 
     Ok(())
 }
 
-/// What a script comes to that is read in pieces of three bytes, and whether these are the replies.
+/// The result of a script that is read in pieces of three bytes, and whether these are the replies.
 fn answer_to_pieces(
     alloc: Global,
     script: &[u8],
@@ -192,7 +192,7 @@ fn a_disk_without_a_cache_is_refused(rt: HostRuntime) -> Result<(), Fail> {
     Ok(())
 }
 
-/// What is replied to a loader of which this comes.
+/// The reply to adding a loader that has this result.
 fn reply_for(outcome: Result<Outcome, ApplyFault>) -> &'static [u8] {
     match outcome {
         Err(_) => b"",
@@ -201,8 +201,8 @@ fn reply_for(outcome: Result<Outcome, ApplyFault>) -> &'static [u8] {
     }
 }
 
-/// What comes of a loader if the device fails after this many calls, and whether that is replied,
-/// and the loader is there.
+/// The result of adding a loader if the device fails after this many calls, and whether the reply
+/// says so, and the loader exists.
 fn add_behind(alloc: Global, pass: u64) -> Result<(Result<Outcome, ApplyFault>, [bool; 2]), Fail> {
     let disk = FuseDisk::new(new_disk(alloc)?, pass, 0);
     let (written, outcome, disk) = replies(alloc, b"loader a\n", disk);
@@ -237,8 +237,8 @@ fn a_command_is_unsure_where_the_device_fails(rt: HostRuntime) -> Result<(), Fai
     Err("no run met no failure".into())
 }
 
-/// Of three commands, if the device fails after this many calls: whether the second is unsure and
-/// the last that is replied to, and whether the first is there.
+/// For three commands, if the device fails after this many calls: whether the second is unsure and
+/// has the last reply, and whether the first is stored.
 fn add_three_behind(alloc: Global, pass: u64) -> Result<[bool; 2], Fail> {
     let disk = FuseDisk::new(new_disk(alloc)?, pass, 0);
     let (written, outcome, disk) = replies(alloc, b"loader a\nloader b\nloader c\n", disk);
@@ -259,7 +259,7 @@ fn nothing_follows_an_unsure_command(rt: HostRuntime) -> Result<(), Fail> {
     Err("the second command was never unsure".into())
 }
 
-/// So many times the same.
+/// The same bytes `count` times.
 fn repeat(alloc: Global, bytes: &[u8], count: usize) -> Result<Vec<u8>, Fail> {
     let mut all = Vec::new(alloc);
     for _ in 0..count {
@@ -268,7 +268,7 @@ fn repeat(alloc: Global, bytes: &[u8], count: usize) -> Result<Vec<u8>, Fail> {
     Ok(all)
 }
 
-/// What a script comes to on a new disk of 256 slots in each half, and whether these are the last
+/// The result of a script on a new disk of 256 slots in each half, and whether these are the last
 /// replies.
 fn end_of(
     alloc: Global,
@@ -292,7 +292,8 @@ fn loader_line(alloc: Global, number: u32) -> Result<String, Fail> {
     Ok(format!(in alloc; "loader l{number}\n")?)
 }
 
-/// Loaders of this many names, and then the first goes, and comes with another.
+/// A script that adds loaders of this many names, then unloads the first, and adds it again with
+/// another.
 fn loaders(alloc: Global, count: u32) -> Result<Vec<u8>, Fail> {
     let mut script = Vec::new(alloc);
     for number in 0..count {

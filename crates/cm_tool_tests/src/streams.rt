@@ -8,7 +8,7 @@ use std::cell::Cell;
 use std::io::{self, BufRead, ErrorKind, Read, Write};
 use std::test::*;
 
-/// What a run came to on a new disk, and the disk.
+/// The result of a run on a new disk, and the disk.
 fn run<R: BufRead, W: Write>(
     alloc: Global,
     reader: &mut R,
@@ -44,8 +44,8 @@ impl<'a> BufRead for FailingReader<'a> {
     }
 }
 
-/// What a run came to whose reader fails, whether its first line is answered, and whether what that
-/// adds is all that is there.
+/// The result of a run whose reader fails, whether its first line has a reply, and whether what
+/// that line adds is all that is stored.
 fn run_failing(alloc: Global) -> Result<(Result<Outcome, ApplyFault>, [bool; 2]), Fail> {
     let mut reader = FailingReader {
         bytes: b"loader a\nloader b",
@@ -97,7 +97,7 @@ fn a_writer_that_fails_at_the_second_reply_ends_the_run(rt: HostRuntime) -> Resu
     Ok(())
 }
 
-/// Is interrupted before each time that it gives its bytes.
+/// Is interrupted each time before it gives its bytes.
 #[derive(Drop)]
 struct InterruptedReader<'a> {
     bytes: &'a [u8],
@@ -154,7 +154,7 @@ impl Write for InterruptedWriter {
     }
 }
 
-/// What a run came to whose reader and writer are interrupted, and whether these are the replies.
+/// The result of a run whose reader and writer are interrupted, and whether these are the replies.
 fn run_interrupted(
     alloc: Global,
     bytes: &[u8],
@@ -188,7 +188,7 @@ fn an_interrupted_reader_and_writer_go_on(rt: HostRuntime) -> Result<(), Fail> {
     Ok(())
 }
 
-/// Takes nothing, and says so.
+/// Takes nothing, and reports that.
 #[derive(Drop)]
 struct FullWriter;
 
@@ -213,7 +213,7 @@ fn a_writer_that_takes_nothing_ends_the_run(rt: HostRuntime) -> Result<(), Fail>
     Ok(())
 }
 
-/// Gives one line at a time, and fails where something written before it isn't passed on.
+/// Gives one line at a time, and fails if something written before it isn't flushed.
 #[derive(Drop)]
 struct PatientReader<'a> {
     bytes: &'a [u8],
@@ -244,7 +244,7 @@ impl<'a> BufRead for PatientReader<'a> {
     }
 }
 
-/// Takes everything, and counts what wasn't passed on since the last flush.
+/// Takes everything, and counts what wasn't flushed since the last time.
 #[derive(Drop)]
 struct HoldingWriter<'a> {
     bytes: Vec<u8>,
@@ -269,7 +269,7 @@ impl<'a> Write for HoldingWriter<'a> {
     }
 }
 
-/// Whether a run goes to its end that reads a line if all replies before it are passed on, and
+/// Whether a run that reads a line only once all replies before it are flushed runs to its end, and
 /// these are the replies.
 fn is_passed_on(
     alloc: Global,

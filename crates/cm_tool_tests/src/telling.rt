@@ -1,4 +1,4 @@
-//! What is told of sound caches.
+//! Reports on sound caches.
 
 use crate::maintenance_disks::{Verb, cache_after, status_of, tell, tell_to_end};
 use cm_disk::{DeviceFault, Disk, SimDisk};
@@ -6,7 +6,7 @@ use cm_maintenance::Status;
 use std::alloc::Global;
 use std::test::*;
 
-/// A script, the line that a check says of the cache after it, and the lines of its list.
+/// A script, the line that a check reports about the cache after it, and the lines of its list.
 type Case<'a> = (&'a [u8], &'a [u8], &'a [u8]);
 
 const CASES: [Case<'_>; 7] = [
@@ -21,7 +21,7 @@ const CASES: [Case<'_>; 7] = [
         b"ok loaders 1 classes 1 chunks 1 number 2\n",
         b"loader app\nclass A words 16 root 0 at 0\n",
     ),
-    // loaders and classes in another order than that of their names, names of other bytes, and
+    // loaders and classes in an order other than that of their names, names of other bytes, and
     // chunks and records after others
     (
         b"loader b\nloader a\ndefine b <0141>\ndefine a <02c3a9>\ndefine a <0125>\n\
@@ -74,7 +74,7 @@ const CASES: [Case<'_>; 7] = [
     ),
 ];
 
-/// Whether these lines are told of a sound cache, and the disk.
+/// Whether these lines are reported about a sound cache, and the disk.
 fn is_told(
     alloc: Global,
     verb: Verb,
@@ -85,7 +85,7 @@ fn is_told(
     Ok((status == Status::Done && is_told, disk))
 }
 
-/// Whether this is reported of a disk, listed, and reported again.
+/// Whether this is reported about a disk, listed, and reported again.
 fn are_told(alloc: Global, disk: SimDisk, report: &[u8], list: &[u8]) -> Result<[bool; 3], Fail> {
     let (is_reported, disk) = is_told(alloc, Verb::Check, disk, report)?;
     let (is_listed, disk) = is_told(alloc, Verb::List, disk, list)?;

@@ -1,4 +1,4 @@
-//! Files that are cut after the last root that is in use.
+//! Files that are truncated after the last root that is in use.
 
 use crate::disks::{new_disk, replies};
 use crate::maintenance_disks::{Verb, cache_after, status_of, tell, tell_to_end};
@@ -7,8 +7,8 @@ use cm_maintenance::Status;
 use std::alloc::Global;
 use std::test::*;
 
-/// Whether a trim of a disk says this line, how long the file is then, and whether a second trim
-/// says the same.
+/// Whether a trim of a disk reports this line, how long the file then is, and whether a second trim
+/// reports the same.
 fn trim_twice(alloc: Global, disk: SimDisk, line: &[u8]) -> Result<(bool, u64, bool), Fail> {
     let (status, is_told, mut disk) = status_of(alloc, Verb::Trim, disk, line)?;
     let Ok(len) = disk.len() else {
@@ -19,8 +19,8 @@ fn trim_twice(alloc: Global, disk: SimDisk, line: &[u8]) -> Result<(bool, u64, b
     Ok((status == Status::Done && is_told, len, is_same))
 }
 
-/// A script, what a trim of the cache after it says, and how long the file is then: its halves end
-/// at 36,864, and each root has 8,192 bytes.
+/// A script, what a trim of the cache after it reports, and how long the file then is: its halves
+/// end at 36,864, and each root has 8,192 bytes.
 const CASES: [(&[u8], &[u8], u64); 4] = [
     (b"", b"roots 0\n", 36_864),
     (b"loader a\ndefine a <0141>\n", b"roots 1\n", 45_056),
@@ -59,8 +59,8 @@ fn length_after(alloc: Global, script: &[u8], disk: SimDisk) -> Result<(u64, Sim
     }
 }
 
-/// How long a file of the usual sizes is when it is new, with a class, and once its loader is gone;
-/// and what comes of a trim then.
+/// How long a file of the default sizes is when it is new, with a class, and once its loader is
+/// unloaded; and the result of a trim then.
 fn usual_lengths(alloc: Global) -> Result<([u64; 3], (bool, u64, bool)), Fail> {
     let (new, disk) = length_after(alloc, b"", new_disk(alloc)?)?;
     let (defined, disk) = length_after(alloc, DEFINE, disk)?;
@@ -77,8 +77,8 @@ fn a_file_of_the_usual_sizes_gives_its_root_back(rt: HostRuntime) -> Result<(), 
     Ok(())
 }
 
-/// The status of a trim if the device fails after this many calls, whether it says that or its
-/// line, and whether the file is sound then.
+/// The status of a trim if the device fails after this many calls, whether it reports that or its
+/// line, and whether the file is then sound.
 fn trim_behind(alloc: Global, pass: u64) -> Result<(Status, bool, bool), Fail> {
     let disk = cache_after(alloc, b"loader app\ndefine app <0141>\nunload app\n")?;
     let fuse = FuseDisk::new(disk, pass, 0);
@@ -91,7 +91,7 @@ fn trim_behind(alloc: Global, pass: u64) -> Result<(Status, bool, bool), Fail> {
     Ok((status, is_told, checked == Status::Done && is_sound))
 }
 
-/// The device fails at one call after another, until all pass.
+/// The device fails at one call after another, until all succeed.
 #[test]
 fn a_trim_on_a_failing_device_leaves_the_cache(rt: HostRuntime) -> Result<(), Fail> {
     for pass in 0..100 {

@@ -1,4 +1,4 @@
--- What is found in contents is what they frame, and the other way round.
+-- What is found in contents is what they frame, and the reverse.
 -- For `found_is_framed`, `found_is_live`.
 use Rattle.std.proofs.Common.{◌≡◌, ◌≢◌, ℕ, ◌+◌, ◌-◌, ◌*◌, ◌^◌, ◌<◌, ◌≤◌, List, [], ◌∷◌}
 use Rattle.std.proofs.Common.{◌++◌, length, take, drop, get_or, Ok, Err, refl, sym}
@@ -17,7 +17,7 @@ use Rattle.cm_layout.specs.Slots.{EntryOfVersion}
 use Rattle.cm_layout.specs.Rows.{slots_of_entries, classes_in, bare, rows_after_all}
 use Rattle.cm_layout.specs.Frames.{BareRow, BareEntry, IsEnd, IsGoodHalf, LiveRowsKeep, GroupsKeep}
 use Rattle.cm_layout.specs.Frames.{AreApart, groups_slots, rows_of, number_at_end}
-use Rattle.cm_layout.specs.Framing.{Framing, IsRight, Matches, used_bytes, used_size}
+use Rattle.cm_layout.specs.Framing.{Framing, IsRightFraming, Matches, used_bytes, used_size}
 use Rattle.cm_layout.specs.Framing.{open_half, other_half, needs}
 use Rattle.cm_layout.specs.Laws.{RowsAreApart, RowsStayLive, FramesAreMatched, MatchesFrame}
 use Rattle.cm_layout.proofs.{classes-bare, some_slots}
@@ -27,7 +27,7 @@ use Rattle.cm_verdict.specs.Faults.{◌>>=◌}
 use Rattle.cm_verdict.specs.Decoding.{front}
 use Rattle.cm_verdict.specs.Walk.{Walked, from_slot, start, first_slot}
 use Rattle.cm_verdict.specs.Found.{counting, counting_half, Found, half_in, head_in}
-use Rattle.cm_verdict.specs.Found.{found_walked, walk_through, sizes_found, found_in, Begins}
+use Rattle.cm_verdict.specs.Found.{found_walked, walk_through, sizes_found, found_in, FileBegins}
 use Rattle.cm_verdict.specs.Laws.{rows_words, AreWhole, IsLive, FoundIsLive, IsFramed}
 use Rattle.cm_verdict.specs.Laws.{FoundIsFramed, IsFound, FramedIsFound}
 use Rattle.cm_verdict.proofs.Walks.{end_from, next_from, HasGroups, HasLive}
@@ -89,7 +89,7 @@ groups_end sizes rows n (group ∷ groups) small k =
 -- ---- from what is found to a framing
 
 module _ (apart : RowsAreApart) (contents : List ℕ) (sizes : Sizes) (c : Counting) (w : Walked)
-    (b : Begins (length contents) (take superblock_size contents) sizes)
+    (b : FileBegins (length contents) (take superblock_size contents) sizes)
     (k : IsCounting sizes (λ h. head_in sizes contents h) c)
     (walked : walk_through sizes c (half_in sizes contents c.half) ≡ Ok w) where
   abbrev half : List ℕ
@@ -181,7 +181,7 @@ module _ (apart : RowsAreApart) (contents : List ℕ) (sizes : Sizes) (c : Count
   rows_same : bare words ≡ rows_of (open_half framing)
   rows_same = bare_words sizes contents w.rows ∙ groups.rows_are
 
-  right : IsRight sizes framing words w.number
+  right : IsRightFraming sizes framing words w.number
   right = record {
     lawful = b.lawful;
     fits = within;
@@ -272,7 +272,7 @@ found_is_framed apart matches_frame contents f e whole =
     (begun_with (length contents) (take superblock_size contents) sizes spelled)
     (counted sizes (λ h. head_in sizes contents h) c counts) walked held matches_frame) whole)))
 
--- ---- and back
+-- ---- and the reverse
 
 needs_roots : (sizes : Sizes) (rows : List (Row (List ℕ))) → roots_at sizes ≤ needs sizes rows
 needs_roots sizes [] = omega arith
@@ -295,11 +295,12 @@ used_head f =
     64 refl
 
 module _ (contents : List ℕ) (sizes : Sizes) (rows : List (Row (List ℕ))) (number : ℕ)
-    (fr : Framing) (right : IsRight sizes fr rows number) (m : Matches sizes fr rows contents) where
+    (fr : Framing) (right : IsRightFraming sizes fr rows number)
+    (m : Matches sizes fr rows contents) where
   enough : roots_at sizes ≤ length contents
   enough = omega (arith, needs_roots sizes rows, m.long)
 
-  begins : Begins (length contents) (take superblock_size contents) sizes
+  begins : FileBegins (length contents) (take superblock_size contents) sizes
   begins = record { block_is = m.superblock; lawful = right.lawful; halves = enough }
 
   abbrev at : ℕ

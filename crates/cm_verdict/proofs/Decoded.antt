@@ -21,7 +21,7 @@ use Rattle.cm_layout.specs.declared.heads.GroupHead.{GroupHead}
 use Rattle.cm_layout.specs.declared.loader_row.LoaderRow.{LoaderRow}
 use Rattle.cm_layout.specs.declared.class_row.ClassRow.{ClassRow}
 use Rattle.cm_layout.specs.declared.unload.Unload.{Unload}
-use Rattle.cm_layout.specs.declared.relocation.Move.{Move}
+use Rattle.cm_layout.specs.declared.move_entry.Move.{Move}
 use Rattle.cm_layout.specs.declared.unload_all.UnloadAll.{UnloadAll}
 use Rattle.cm_layout.specs.declared.row.Row.TheVariants.{Loader, Class}
 use Rattle.cm_layout.specs.declared.entry.Entry.TheVariants as entry
@@ -39,7 +39,7 @@ use Rattle.cm_layout.proofs.{loader_slots-count, name-back, within-room, slot_co
 use Rattle.cm_verdict.specs.Decoding.{two_at, four_at, eight_at, if_spelled, half_head_at}
 use Rattle.cm_verdict.specs.Decoding.{half_head_in, group_head_at, group_head_in, name_size}
 use Rattle.cm_verdict.specs.Decoding.{front, loader_slots_at, loader_of, loader_at, loader_in}
-use Rattle.cm_verdict.specs.Decoding.{class_at, class_in, chunk_at, unload_at}
+use Rattle.cm_verdict.specs.Decoding.{class_row_at, class_row_in, chunk_at, unload_at}
 use Rattle.cm_verdict.specs.Decoding.{unload_in, move_at, move_in, kind_at, row_in, entry_in}
 use Rattle.cm_verdict.specs.Decoding.{sizes_at, is_lawful, sizes_in, loaders_size, eights_in}
 use Rattle.cm_verdict.specs.Decoding.{unload_all_at, unload_all_in}
@@ -141,7 +141,7 @@ pub record BeginsWith (version : ℕ) (slots : List ℕ) (e : BareEntry) : Type 
   pub fits : FitsEntry e
   pub of_version : EntryOfVersion version e
 
--- its length stands in the first slot
+-- a name's length is in the first slot
 own_size : (slots : List ℕ) → name_size (loader_slots_at slots) ≡ name_size slots
 own_size slots = by_test (nat_lt name_room (name_size slots))
   where
@@ -212,13 +212,13 @@ same_chunk c fits d root order at =
     let a : d.at ≡ c.at = at ∙ from_le_bytes-to_le_bytes_4 c.at fits.at in
     (λ i. record { root = r i; order = o i; at = a i })
 
-class_spelled : (slot : List ℕ) (r : ClassRow) → class_in slot ≡ Some r
+class_spelled : (slot : List ℕ) (r : ClassRow) → class_row_in slot ≡ Some r
     → (slot ≡ class_slot r) × FitsClass r
-unfolding class_in
+unfolding class_row_in
 class_spelled slot r e =
-    let s = spelled_some (class_slot (class_at slot)) slot (class_at slot) r e in
-    let fits : FitsClass (class_at slot) =
-    subst (λ (l : List ℕ). FitsClass (class_at l)) s.same (record {
+    let s = spelled_some (class_slot (class_row_at slot)) slot (class_row_at slot) r e in
+    let fits : FitsClass (class_row_at slot) =
+    subst (λ (l : List ℕ). FitsClass (class_row_at l)) s.same (record {
       words = small_4 (four_at 4 slot);
       loader = small_8 (eight_at 8 slot);
       chunk = record {
@@ -230,12 +230,12 @@ class_spelled slot r e =
     }) in
     (sym s.same ∙ ap class_slot s.value, subst FitsClass s.value fits)
 
-class_again : (r : ClassRow) → FitsClass r → class_in (class_slot r) ≡ Some r
-unfolding class_in
+class_again : (r : ClassRow) → FitsClass r → class_row_in (class_slot r) ≡ Some r
+unfolding class_row_in
 class_again r fits =
     let chunk : chunk_at 16 (class_slot r) ≡ r.place.chunk =
     same_chunk r.place.chunk fits.chunk (chunk_at 16 (class_slot r)) refl refl refl in
-    let same : class_at (class_slot r) ≡ r = (λ i. record {
+    let same : class_row_at (class_slot r) ≡ r = (λ i. record {
       loader = from_le_bytes-to_le_bytes_8 r.loader fits.loader i;
       place = record {
         chunk = chunk i;
@@ -273,7 +273,7 @@ eights_count (suc n) bytes = omega (arith, eights_count n (drop 8 bytes))
 abbrev AreSmall : List ℕ → Type 0
 AreSmall us = AllByRecursion (λ u. u < 2 ^ 64) us
 
--- numbers that were written are small ones when they are read, and the same where they were small
+-- numbers that were written as small are small when they are read, and the same
 eights_small : (n : ℕ) (us : List ℕ) → n ≤ length us
     → AreSmall (eights_in n (flat_map (to_le_bytes w64) us))
 eights_small zero us few = tt
@@ -386,14 +386,14 @@ row_spelled version slots row = by_kind (kind_at slots == 17)
   where
     by_kind : (t : Bool)
         → cond t (option_map (λ r. Loader r) (loader_in version slots))
-        (option_map (λ r. Class r tt) (class_in (front slots))) ≡ Some row
+        (option_map (λ r. Class r tt) (class_row_in (front slots))) ≡ Some row
         → BeginsWith version slots (entry.Live row)
     by_kind true e =
         mapped_some (λ (r : LoaderRow). Loader r) (loader_in version slots) row e (λ r there is.
         subst (λ (w : BareRow). BeginsWith version slots (entry.Live w)) is
         (loader_spelled version slots r there))
     by_kind false e =
-        mapped_some (λ (r : ClassRow). Class r tt) (class_in (front slots)) row e (λ r there is.
+        mapped_some (λ (r : ClassRow). Class r tt) (class_row_in (front slots)) row e (λ r there is.
         let s = class_spelled (front slots) r there in
         subst (λ (w : BareRow). BeginsWith version slots (entry.Live w)) is
         (record { here = s.0; fits = s.1; of_version = tt }))

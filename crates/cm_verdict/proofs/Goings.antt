@@ -10,7 +10,7 @@ use Rattle.cm_verdict.specs.declared.fault.FileFault.{FileFault}
 use Rattle.cm_verdict.specs.declared.fault.FileFault.TheVariants.{Damaged}
 use Rattle.cm_verdict.specs.Walk.{Walked, Turn, Stop, Go, Bad, turn, from_slot, on_turn, walk}
 
--- of so many turns, the next one first
+-- the walk after a turn, with this many turns left
 abbrev after_turn : Sizes → ℕ → List ℕ → ℕ → Walked → Turn → Result Walked FileFault
 after_turn sizes first half turns w t =
     on_turn (first + w.slot) w (λ next. walk sizes first half turns next) t

@@ -211,7 +211,7 @@ counted sizes slots c = by_zero (open_head sizes (slots Zero)) refl
     by_zero (Ok zero) is e = by_one zero is (open_head sizes (slots One)) refl e
     by_zero (Err what) is e = absurd (cc)
 
--- ---- and back
+-- ---- and the reverse
 
 good_older : (sizes : Sizes) (epoch : ℕ) (o : Option HalfHead) → IsRightOlder sizes epoch o
     → IsGoodOne sizes o

@@ -35,7 +35,7 @@ use Rattle.cm_verdict.specs.declared.fault.Damage.TheVariants as damage
 use Rattle.cm_verdict.specs.declared.fault.FileFault.{FileFault}
 use Rattle.cm_verdict.specs.declared.fault.FileFault.TheVariants.{NotACache, Damaged}
 use Rattle.cm_verdict.specs.Decoding.{sizes_in}
-use Rattle.cm_verdict.specs.Found.{is_cache, sizes_spelled, sizes_found, Begins}
+use Rattle.cm_verdict.specs.Found.{is_cache, sizes_spelled, sizes_found, FileBegins}
 use Rattle.cm_verdict.specs.Laws.{rows_words, AreWhole}
 use Rattle.cm_verdict.specs.Verdict.{words_at}
 use Rattle.cm_verdict.proofs.Decoded.{sizes_spelled as block_spelled, sizes_again}
@@ -56,15 +56,15 @@ sizes_same : (a b : Sizes) → sizes_ok a ≡ sizes_ok b → a ≡ b
 sizes_same a b e = cc
 
 pub begun_with : (long : ℕ) (block : List ℕ) (sizes : Sizes) → sizes_found long block ≡ Ok sizes
-    → Begins long block sizes
+    → FileBegins long block sizes
 unfolding sizes_found
 begun_with long block sizes = by_cache (is_cache long block)
   where
     by_length : (g : Sizes) → sizes_in block ≡ Some g → (t : Bool) → nat_le (roots_at g) long ≡ t
-        → cond t (Ok g) (Err (Damaged damage.Length 0)) ≡ Ok sizes → Begins long block sizes
+        → cond t (Ok g) (Err (Damaged damage.Length 0)) ≡ Ok sizes → FileBegins long block sizes
     by_length g there true long_enough e =
         let s = block_spelled block g there in
-        subst (Begins long block) (sizes_same g sizes e) (record {
+        subst (FileBegins long block) (sizes_same g sizes e) (record {
           block_is = s.0;
           lawful = s.1;
           halves = leb-true (roots_at g) long long_enough;
@@ -72,16 +72,16 @@ begun_with long block sizes = by_cache (is_cache long block)
     by_length g there false long_enough e = absurd (cc)
 
     by_sizes : (o : Option Sizes) → sizes_in block ≡ o → sizes_spelled long o ≡ Ok sizes
-        → Begins long block sizes
+        → FileBegins long block sizes
     by_sizes None there e = absurd (cc)
     by_sizes (Some g) there e = by_length g there (nat_le (roots_at g) long) refl e
 
     by_cache : (t : Bool) → cond t (sizes_spelled long (sizes_in block)) (Err NotACache) ≡ Ok sizes
-        → Begins long block sizes
+        → FileBegins long block sizes
     by_cache true e = by_sizes (sizes_in block) refl e
     by_cache false e = absurd (cc)
 
-pub begins_so : (long : ℕ) (block : List ℕ) (sizes : Sizes) → Begins long block sizes
+pub begins_so : (long : ℕ) (block : List ℕ) (sizes : Sizes) → FileBegins long block sizes
     → sizes_found long block ≡ Ok sizes
 unfolding sizes_found
 begins_so long block sizes b =
@@ -120,7 +120,7 @@ pub first_shut : (bytes : List ℕ) → IsEnd bytes → 0 < length bytes → get
 first_shut [] end some = absurd (omega (arith, some))
 first_shut (b ∷ bytes) end some = end
 
--- the other half's head, out of what contents match, and back
+-- the other half's head, from what contents match, and the reverse
 pub has_older : (at : ℕ) (older : Option HalfHead) (contents : List ℕ)
     → IsHeadOf older (part at slot_size contents) → HasOlder at older contents
 has_older at None contents shut =

@@ -1,4 +1,4 @@
--- Where a class was defined has no part in the rules, nor in what an entry makes of rows.
+-- Where a class was defined has no part in the rules, nor in what an entry does to rows.
 -- For `found_is_framed`, `found_is_live` and others.
 use Rattle.std.proofs.Common.{◌≡◌, ℕ, List, [], ◌∷◌, ◌++◌, refl, sym, ap, ◌∙◌}
 use Rattle.cm_pool.specs.Geometry.{Sizes}
@@ -45,7 +45,7 @@ placed_rule sizes number n rows e =
     sym (ap (broken_rule sizes (bare rows) number) (entry_bare n e))
     ∙ rule-bare sizes rows number (placed_entry n e)
 
--- the same rows live
+-- the same rows are live
 pub placed_more : (n : ℕ) (rows : List (Row DefinedAt)) (row : BareRow)
     → bare (rows ++ placed_row n row ∷ []) ≡ bare rows ++ row ∷ []
 placed_more n rows row =

@@ -1,5 +1,5 @@
--- The second pass: each class that lives has a record of a class that keeps the rules, under a name
--- that is new in its loader.
+-- The second pass: each live class has a record of a class that keeps the rules, under a name that
+-- is new in its loader.
 -- For `are_kept`, `read_record`, `verdict_is_exact` and others.
 use Rattle.std.proofs.Common.{◌≡◌, ℕ, ◌+◌, ◌<◌, ◌≤◌, ◌^◌, Bool, true, false, cond, List, [], ◌∷◌}
 use Rattle.std.proofs.Common.{◌++◌, length, get_or, Option, Some, None, Ok, Err, refl, sym, ap}
@@ -176,7 +176,7 @@ rows_ok rows = Ok rows
 rows_ok_same : (a b : List (Row ClassFile)) → rows_ok a ≡ rows_ok b → a ≡ b
 rows_ok_same a b e = cc
 
--- these classes are those of the rows, behind the ones before them
+-- these classes are those of the rows, after the ones before them
 record ArePassed (sizes : Sizes) (contents : List ℕ) (before : List (Row ClassFile))
     (rows : List (Row DefinedAt)) (classes : List (Row ClassFile)) : Type 0 where
   words : rows_with lay classes ≡ rows_words sizes contents rows
@@ -339,7 +339,7 @@ stands_in_verdict framed sizes contents m arenas number st =
       },
     )
 
--- ---- what reading a record tells
+-- ---- the result of reading a record
 
 pub no_record : (words : List ℕ) → length words ≤ limit → (IsRecord words → ⊥)
     → is_some (class_kept words) ≡ false

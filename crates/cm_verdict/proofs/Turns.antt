@@ -1,4 +1,4 @@
--- One turn: where the walk stops, and how it goes on, both ways.
+-- One turn: where the walk stops, and how it continues, in both directions.
 -- For `HalfWalk::walk_all`.
 use Rattle.std.proofs.Common.{◌≡◌, ◌≢◌, ℕ, ◌+◌, ◌*◌, ◌-◌, ◌≤◌, ◌^◌, Bool, true, false, cond}
 use Rattle.std.proofs.Common.{List, ◌++◌, take, drop, get_or}
@@ -17,7 +17,8 @@ use Rattle.cm_layout.specs.Rows.{rows_after, slots_of_row, slots_of}
 use Rattle.cm_layout.specs.Rules.{broken_rule, broken_live_rule}
 use Rattle.cm_layout.specs.Frames.{BareRow, BareEntry}
 use Rattle.cm_verdict.specs.declared.fault.Damage.TheVariants as damage
-use Rattle.cm_verdict.specs.Decoding.{is_open, front, group_head_in, row_in, entry_in, numbers_of}
+use Rattle.cm_verdict.specs.Decoding.{is_open, front, group_head_in, row_in, entry_in}
+use Rattle.cm_verdict.specs.Decoding.{numbers_taken}
 use Rattle.cm_verdict.specs.Walk.{Walked, Stop, Go, Bad, placed_row, placed_entry, behind_slots}
 use Rattle.cm_verdict.specs.Walk.{go_unless, live_turn, entry_turn, is_good_group, begun}
 use Rattle.cm_verdict.specs.Walk.{group_turn, gate_turn, turn}
@@ -32,12 +33,12 @@ pub record IsGoodGroup (sizes : Sizes) (w : Walked) (h : GroupHead)
   pub few : h.count ≤ 64
   pub room : w.slot + h.count ≤ sizes.slots - 1
   pub first : h.first ≡ w.number + 1
-  pub last : w.number + numbers_of w.version h.count entries ≤ 2 ^ 63
+  pub last : w.number + numbers_taken w.version h.count entries ≤ 2 ^ 63
 
 good_group : (sizes : Sizes) (w : Walked) (h : GroupHead) (entries : List ℕ)
     → is_good_group sizes w h entries ≡ true → IsGoodGroup sizes w h entries
 good_group sizes w h entries e =
-    let numbers = numbers_of w.version h.count entries in
+    let numbers = numbers_taken w.version h.count entries in
     let a = and_parts (nat_le 1 h.count && nat_le h.count 64
     && nat_le (w.slot + h.count) (sizes.slots - 1) && (h.first == w.number + 1))
     (nat_le (w.number + numbers) (2 ^ 63)) e in
@@ -60,11 +61,11 @@ is_good sizes w h entries g =
     and_from _ _ (and_from _ _ (and_from _ _ (and_from _ _ (le-leb 1 h.count g.some)
     (le-leb h.count 64 g.few)) (le-leb (w.slot + h.count) (sizes.slots - 1) g.room))
     (eq-eqb h.first (w.number + 1) g.first))
-    (le-leb (w.number + numbers_of w.version h.count entries) (2 ^ 63) g.last)
+    (le-leb (w.number + numbers_taken w.version h.count entries) (2 ^ 63) g.last)
 
--- ---- what the walk has seen where it goes on
+-- ---- what the walk has seen when it continues
 
--- those of the live rows, or of the group, that are still to come
+-- the slots of the live rows, or of the group, that are still to come
 abbrev pub left_of : Walked → List ℕ → List ℕ
 left_of w slots = take (64 * w.left) slots
 
@@ -157,7 +158,7 @@ what_goes sizes first w slots next = by_left (w.left == 0) refl w.live refl
     by_left false is false live e =
         of_entry (entry_in w.version (left_of w slots)) (some_left w.left is) live refl e
 
--- ---- where it stops
+-- ---- when it stops
 
 pub record Stops (w : Walked) (slots : List ℕ) : Type 0 where
   pub none : w.left ≡ 0
@@ -211,7 +212,7 @@ what_stops sizes first w slots = by_left (w.left == 0) refl w.live
     by_left false is true e = absurd (of_row (row_in w.version (left_of w slots)) e)
     by_left false is false e = absurd (of_entry (entry_in w.version (left_of w slots)) e)
 
--- ---- and back
+-- ---- and the reverse
 
 pub does_stop : (sizes : Sizes) (first : ℕ) (w : Walked) (slots : List ℕ) → Stops w slots
     → turn sizes first w slots ≡ Stop

@@ -1,4 +1,4 @@
--- Where the walk comes to an end, the half is what a half is made of.
+-- If the walk comes to an end, the half consists of live rows and groups.
 -- For `found_is_framed`, `found_is_live` and others.
 use Rattle.std.proofs.Common.{◌≡◌, ◌≢◌, ℕ, zero, suc, ◌+◌, ◌-◌, ◌*◌, ◌<◌, ◌≤◌, ◌⊎◌, inl, inr}
 use Rattle.std.proofs.Common.{Bool, true, false, cond, List, [], ◌∷◌, ◌++◌, length, take, drop}
@@ -25,7 +25,7 @@ use Rattle.cm_layout.specs.Frames.{BareRow, BareEntry, LiveRowsKeep, EntriesKeep
 use Rattle.cm_layout.specs.Frames.{GroupsKeep, groups_slots, IsEnd}
 use Rattle.cm_layout.proofs.{slot_count, some_slots, not_long, loader_slot-count, rest_slot-count}
 use Rattle.cm_verdict.specs.declared.fault.FileFault.{FileFault}
-use Rattle.cm_verdict.specs.Decoding.{is_open, front, kind_at, numbers_in, numbers_of}
+use Rattle.cm_verdict.specs.Decoding.{is_open, front, kind_at, numbers_in, numbers_taken}
 use Rattle.cm_verdict.specs.Walk.{Walked, Turn, Stop, Go, Bad}
 use Rattle.cm_verdict.specs.Walk.{begun, turn, from_slot, on_turn, walk}
 use Rattle.cm_verdict.proofs.Decoded.{BeginsWith}
@@ -80,7 +80,7 @@ stands_here version half slot left e b =
 
 -- ---- numbers
 
--- in the first version an entry takes one slot
+-- in version 1 an entry takes one slot
 slots_one : (version : ℕ) (e : BareEntry) → (version == 1) ≡ true → EntryOfVersion version e
     → slots_of e ≡ 1
 slots_one version (entry.Live (Loader r)) first short =
@@ -98,7 +98,7 @@ slots_many version [] first short = refl
 slots_many version (e ∷ es) first short =
     omega (arith, slots_one version e first short.0, slots_many version es first short.1)
 
--- the next slot's number comes last, too
+-- the next slot's number also comes last
 pub numbers_next : (count : ℕ) (slots : List ℕ)
     → numbers_in (suc count) slots
     ≡ numbers_in count slots + cond (kind_at (drop (64 * count) slots) == 22) 0 1
@@ -114,7 +114,7 @@ numbers_next (suc count) slots =
       ap {B = ℕ} (λ (l : List ℕ). cond (kind_at l == 22) 0 1) there,
     )
 
--- one number by a slot that isn't the rest of a name, and none by one that is
+-- one number for a slot that isn't a continuation slot of a name, and none for one that is
 numbers_more : (slot rest : List ℕ) (count : ℕ) → length slot ≡ 64
     → numbers_in (suc count) (slot ++ rest)
     ≡ cond (kind_at (slot ++ rest) == 22) 0 1 + numbers_in count rest
@@ -186,7 +186,7 @@ numbers_each sizes rows n (e ∷ es) behind k =
 pub numbers_many : (version : ℕ) (sizes : Sizes) (rows : List BareRow) (n : ℕ)
     (es : List BareEntry) (behind : List ℕ) → EntriesKeep sizes rows n es
     → AllByRecursion (EntryOfVersion version) es
-    → numbers_of version (slots_of_entries es) (flat_map entry_slots es ++ behind) ≡ length es
+    → numbers_taken version (slots_of_entries es) (flat_map entry_slots es ++ behind) ≡ length es
 numbers_many version sizes rows n es behind k of_version = by_test (version == 1) refl
   where
     slots : List ℕ
@@ -199,8 +199,8 @@ numbers_many version sizes rows n es behind k of_version = by_test (version == 1
 
 -- ---- what is found from a slot on
 
--- entries of a group, and groups behind it; with the rows that live before them, the number of the
--- last command, and how many slots of the group are to come
+-- entries of a group, and groups after it; with the live rows before them, the number of the last
+-- command, and how many slots of the group are to come
 pub record HasGroups (version : ℕ) (sizes : Sizes) (half : List ℕ) (slot : ℕ)
     (rows : List BareRow) (number left : ℕ) (e : Walked) : Type 0 where
   pub entries : List BareEntry
@@ -208,7 +208,7 @@ pub record HasGroups (version : ℕ) (sizes : Sizes) (half : List ℕ) (slot : �
   pub count : slots_of_entries entries ≡ left
   pub keep : EntriesKeep sizes rows number entries
   pub of_version : AllByRecursion (EntryOfVersion version) entries
-  -- the number behind these entries
+  -- the number after these entries
   pub middle : ℕ
   pub middle_is : middle ≡ number + length entries
   pub groups_keep : GroupsKeep sizes (rows_after_all rows entries) middle groups
@@ -294,8 +294,8 @@ with_group sizes half w e h none is good g = record {
       few = omega (arith, g.count, good.few);
       numbers = omega (
         arith,
-        ap (λ (n : ℕ). numbers_of w.version n (drop 64 (from_slot half w.slot))) g.count,
-        ap (numbers_of w.version (slots_of_entries g.entries))
+        ap (λ (n : ℕ). numbers_taken w.version n (drop 64 (from_slot half w.slot))) g.count,
+        ap (numbers_taken w.version (slots_of_entries g.entries))
             (further half w.slot 1 ∙ g.bytes),
         numbers_many w.version sizes (bare w.rows) w.number g.entries
             (groups_slots g.middle g.groups ++ from_slot half e.slot) g.keep g.of_version,
@@ -335,7 +335,7 @@ with_group sizes half w e h none is good g = record {
         ≡ length a + length (flat_map (λ group. group) gs)
     length_joined a gs = length-append a (flat_map (λ group. group) gs)
 
--- live rows, and what stands behind them
+-- live rows, and what follows them
 pub record HasLive (version : ℕ) (sizes : Sizes) (half : List ℕ) (slot : ℕ)
     (rows : List BareRow) (base left : ℕ) (e : Walked) : Type 0 where
   pub live : List BareRow
@@ -400,7 +400,7 @@ module _ (sizes : Sizes) (first : ℕ) (half : List ℕ) (long : length half ≡
   last_end slot is =
       subst IsEnd (sym (drop_of_length-le half {i = 64 * slot} (omega (arith, long, is)))) tt
 
-  -- the half has so many slots, and the turns are enough for those that are left of it
+  -- the half has this many slots, and the turns are enough for those of it that are left
   pub record HasTurns (turns : ℕ) (w : Walked) : Type 0 where
     pub inside : w.slot + w.left ≤ sizes.slots
     pub enough : sizes.slots ≤ w.slot + turns
@@ -416,7 +416,7 @@ module _ (sizes : Sizes) (first : ℕ) (half : List ℕ) (long : length half ≡
   no_live : (l : Bool) → l ≡ true → l ≡ false → ⊥
   no_live l t f = cc
 
-  -- at the half's end
+  -- the walk at the half's end
   through : (w e : Walked) → w.slot + w.left ≤ sizes.slots → sizes.slots ≤ w.slot
       → done w ≡ done e → Says w e
   through w e inside none same =

@@ -20,7 +20,7 @@ use Rattle.cm_layout.specs.Rows.{rows_after, rows_after_all, bare}
 use Rattle.cm_layout.specs.Frames.{BareRow, BareEntry, LiveRowsKeep, EntriesKeep, GroupKeeps}
 use Rattle.cm_layout.specs.Frames.{GroupsKeep, groups_slots, IsEnd}
 use Rattle.cm_layout.proofs.{slot_count, some_slots}
-use Rattle.cm_verdict.specs.Decoding.{is_open, numbers_of}
+use Rattle.cm_verdict.specs.Decoding.{is_open, numbers_taken}
 use Rattle.cm_verdict.specs.Walk.{Walked, Go, placed_row, placed_entry}
 use Rattle.cm_verdict.specs.Walk.{begun, turn, from_slot, on_turn, walk}
 use Rattle.cm_verdict.proofs.Turns.{IsGoodGroup, does_stop, group_goes, row_goes, entry_goes}
@@ -42,7 +42,7 @@ entries_count sizes rows n (e ∷ es) k =
       length-append (entry_slots e) (flat_map entry_slots es),
     )
 
--- slots that stand in front of others, where so many are left of the live rows or of the group
+-- slots that come before others, if `n` slots of the live rows or of the group are left
 record IsFront (half : List ℕ) (slot : ℕ) (begin rest : List ℕ) (n : ℕ) : Type 0 where
   here : take (64 * n) (from_slot half slot) ≡ begin
   behind : from_slot half (slot + n) ≡ rest
@@ -76,7 +76,7 @@ module _ (sizes : Sizes) (first : ℕ) (half : List ℕ) (long : length half ≡
     pub rows_are : bare end.rows ≡ rows
     pub number_is : end.number ≡ number
 
-  -- what is ahead: the rest of a group's entries, and groups
+  -- what is ahead: the remaining entries of a group, and groups
   pub record IsAhead (w : Walked) (entries : List BareEntry) (groups : List (List BareEntry))
       (behind : List ℕ) (rows : List BareRow) (number middle : ℕ) : Type 0 where
     pub count : slots_of_entries entries ≡ w.left
@@ -112,7 +112,7 @@ module _ (sizes : Sizes) (first : ℕ) (half : List ℕ) (long : length half ≡
         leb-false slot sizes.slots e,
       ))
 
-  -- where slots stand, the half goes on
+  -- if there are slots, the half continues
   goes_on : (slot n : ℕ) → 1 ≤ n → 64 * n ≤ length (from_slot half slot)
       → slot + n ≤ sizes.slots
   goes_on slot n some long_enough = by_room (room slot)
@@ -133,7 +133,7 @@ module _ (sizes : Sizes) (first : ℕ) (half : List ℕ) (long : length half ≡
       (λ next. walk sizes first half turns next)
       (turn sizes first w (from_slot half w.slot))) (Ok w)) (lt-ltb w.slot sizes.slots lt)
 
-  -- what was reached behind a turn is reached
+  -- what was reached after a turn is reached
   reached : (turns : ℕ) (w next : Walked) (rows rows' : List BareRow) (number number' : ℕ)
       → w.slot < sizes.slots → turn sizes first w (from_slot half w.slot) ≡ Go next
       → rows ≡ rows' → number ≡ number' → Reaches turns next rows number
@@ -251,7 +251,7 @@ module _ (sizes : Sizes) (first : ℕ) (half : List ℕ) (long : length half ≡
         arith,
         keeps.numbers,
         same_number,
-        ap (numbers_of w.version (slots_of_entries group)) (further half w.slot 1
+        ap (numbers_taken w.version (slots_of_entries group)) (further half w.slot 1
             ∙ head_front.behind),
         numbers_many w.version sizes rows middle group others keeps.entries
             a.groups_of_version.0,
@@ -354,7 +354,7 @@ module _ (sizes : Sizes) (first : ℕ) (half : List ℕ) (long : length half ≡
           end = a.end;
         })
 
-  -- with no turn left the half is through
+  -- with no turn left the half is at its end
   none_left : (w : Walked) (n : ℕ) → sizes.slots ≤ w.slot + 0 → 1 ≤ n → w.slot + n ≤ sizes.slots
       → ⊥
   none_left w n at some within = omega (arith, at, some, within)
@@ -381,7 +381,7 @@ module _ (sizes : Sizes) (first : ℕ) (half : List ℕ) (long : length half ≡
   groups_found (suc turns) w (d ∷ entries) groups behind rows number middle at a =
       entry_found w d entries groups behind rows number middle a turns (groups_found turns) at
 
-  -- live rows ahead, and groups behind them
+  -- live rows ahead, and groups after them
   pub record IsAheadLive (w : Walked) (live : List BareRow) (groups : List (List BareEntry))
       (behind : List ℕ) (rows : List BareRow) (base : ℕ) : Type 0 where
     pub count : slots_of_rows live ≡ w.left

@@ -1,5 +1,5 @@
--- What bytes spell, as functions: fields are read at their places, and only writing them again
--- tells whether the bytes are an encoding.
+-- What bytes spell, as functions: fields are read at their places, and the bytes are an encoding
+-- exactly if writing these fields again gives them.
 use Rattle.std.specs.Prelude.{ℕ, zero, suc, ◌≤◌, length, ◌+◌, ◌*◌, ◌==◌, ◌&&◌, nat_le, nat_lt, Bool}
 use Rattle.std.specs.Prelude.{if◌then◌else◌, List, [], ◌++◌}
 use Rattle.std.specs.Prelude.{◌∷◌, take, drop}
@@ -14,7 +14,7 @@ use Rattle.cm_layout.specs.declared.heads.GroupHead.{GroupHead}
 use Rattle.cm_layout.specs.declared.loader_row.LoaderRow.{LoaderRow}
 use Rattle.cm_layout.specs.declared.class_row.ClassRow.{ClassRow}
 use Rattle.cm_layout.specs.declared.unload.Unload.{Unload}
-use Rattle.cm_layout.specs.declared.relocation.Move.{Move}
+use Rattle.cm_layout.specs.declared.move_entry.Move.{Move}
 use Rattle.cm_layout.specs.declared.unload_all.UnloadAll.{UnloadAll}
 use Rattle.cm_layout.specs.declared.row.Row.TheVariants.{Loader, Class}
 use Rattle.cm_layout.specs.declared.entry.Entry.TheVariants as entry
@@ -37,7 +37,7 @@ four_at at bytes = from_le_bytes w32 (take 4 (drop at bytes))
 abbrev pub eight_at : ℕ → List ℕ → ℕ
 eight_at at bytes = from_le_bytes w64 (take 8 (drop at bytes))
 
--- a value, where the bytes are its encoding
+-- a value, if the bytes are its encoding
 abbrev pub if_spelled : {A : Type 0} → List ℕ → List ℕ → A → Option A
 if_spelled encoding bytes value = if bytes_eq encoding bytes then Some value else None
 
@@ -66,7 +66,7 @@ group_head_in slot = if_spelled (group_head_slot (group_head_at slot)) slot (gro
 
 -- ---- rows and entries
 
--- slots stand one behind another here: those of a row or an entry, and more behind them
+-- slots follow one another here: those of a row or an entry, and more after them
 abbrev pub front : List ℕ → List ℕ
 front slots = take slot_size slots
 
@@ -78,7 +78,7 @@ abbrev pub loader_slots_at : List ℕ → List ℕ
 loader_slots_at slots =
     take (slot_size * (if nat_lt name_room (name_size slots) then 2 else 1)) slots
 
--- its name is in the first as far as there is room, and its rest in the second
+-- a loader's name is in its first slot as far as there is room, and continues in the second
 abbrev pub name_at : List ℕ → List ℕ
 name_at slots = take (name_size slots) (take name_room (drop 16 slots) ++ drop 80 slots)
 
@@ -99,14 +99,14 @@ chunk_at at slot = record {
   at = four_at (at + 8) slot;
 }
 
-abbrev pub class_at : List ℕ → ClassRow
-class_at slot = record {
+abbrev pub class_row_at : List ℕ → ClassRow
+class_row_at slot = record {
   loader = eight_at 8 slot;
   place = record { chunk = chunk_at 16 slot; offset = four_at 28 slot; words = four_at 4 slot };
 }
 
-unfoldable pub class_in : List ℕ → Option ClassRow
-class_in slot = if_spelled (class_slot (class_at slot)) slot (class_at slot)
+unfoldable pub class_row_in : List ℕ → Option ClassRow
+class_row_in slot = if_spelled (class_slot (class_row_at slot)) slot (class_row_at slot)
 
 abbrev pub unload_at : List ℕ → Unload
 unload_at slot = record { loader = eight_at 8 slot }
@@ -127,7 +127,7 @@ move_in slot = if_spelled (move_slot (move_at slot)) slot (move_at slot)
 abbrev pub loaders_size : List ℕ → ℕ
 loaders_size slot = get_or slot 2 0
 
--- so many numbers, one behind another
+-- this many numbers, one after another
 abbrev pub eights_in : ℕ → List ℕ → List ℕ
 eights_in zero bytes = []
 eights_in (suc n) bytes = eight_at 0 bytes ∷ eights_in n (drop 8 bytes)
@@ -148,7 +148,7 @@ kind_at slot = get_or slot 1 0
 unfoldable pub row_in : ℕ → List ℕ → Option BareRow
 row_in version slots =
     if kind_at slots == 17 then option_map (λ r. Loader r) (loader_in version slots)
-    else option_map (λ r. Class r tt) (class_in (front slots))
+    else option_map (λ r. Class r tt) (class_row_in (front slots))
 
 unfoldable pub entry_in : ℕ → List ℕ → Option BareEntry
 entry_in version slots =
@@ -158,20 +158,20 @@ entry_in version slots =
     then option_map (λ e. entry.UnloadAll e) (unload_all_in (front slots))
     else option_map (λ r. entry.Live r) (row_in version slots)
 
--- a row or an entry takes a slot at least, and no more than there are
+-- a row or an entry takes at least one slot, and no more than there are
 pub record AreTaken (slots : List ℕ) (taken : ℕ) : Type 0 where
   pub some : 1 ≤ taken
   pub few : slot_size * taken ≤ length slots
 
--- how many of these slots take a number: all but the rests of names, of which the first version
--- knows none
+-- how many of these slots take a number: all but continuation slots of names, which version 1
+-- doesn't have
 unfoldable pub numbers_in : ℕ → List ℕ → ℕ
 numbers_in zero slots = 0
 numbers_in (suc count) slots =
     (if kind_at slots == 22 then 0 else 1) + numbers_in count (drop slot_size slots)
 
-abbrev pub numbers_of : ℕ → ℕ → List ℕ → ℕ
-numbers_of version count slots = if version == 1 then count else numbers_in count slots
+abbrev pub numbers_taken : ℕ → ℕ → List ℕ → ℕ
+numbers_taken version count slots = if version == 1 then count else numbers_in count slots
 
 -- ---- the superblock
 

@@ -1,5 +1,5 @@
--- What is wrong with a file, in the order in which it is looked for: the first fault is the one
--- that is told.
+-- What is wrong with a file, in the order of the checks: the first fault is the one that is
+-- reported.
 use Rattle.std.specs.Prelude.{ℕ, Result, Ok, Err}
 use Rattle.cm_layout.specs.declared.entry_rule.EntryRule.{EntryRule}
 use Rattle.cm_layout.specs.declared.entry_rule.EntryRule.TheVariants.{OnRows, OnChunks}
@@ -19,7 +19,7 @@ damage_number damage.Chunks = 7
 damage_number damage.Record = 8
 damage_number damage.ClassTwice = 9
 
--- the damage that an entry does which breaks a rule
+-- the damage that an entry is which breaks this rule
 abbrev pub damage_of : EntryRule → Damage
 damage_of OnRows = damage.Rows
 damage_of OnChunks = damage.Chunks
@@ -31,7 +31,7 @@ abbrev pub ◌>>=◌ : {A B : Type 0} → Result A FileFault → (A → Result B
 (Ok x) >>= f = f x
 (Err e) >>= f = Err e
 
--- a damage, with the slot where it was met
+-- a damage, with the slot where it was found
 abbrev pub at_slot : {A : Type 0} → ℕ → Result A Damage → Result A FileFault
 at_slot slot (Ok x) = Ok x
 at_slot slot (Err what) = Err (Damaged what slot)

@@ -1,5 +1,5 @@
--- What is found in a file without looking at records: its sizes, the half that counts, and what
--- lives by the entries of that half; or the first damage. The superblock comes first, then the
+-- What is found in a file without looking at records: its sizes, the half that counts, and what is
+-- live by the entries of that half; or the first damage. The superblock comes first, then the
 -- file's length, the heads of both halves, their epochs, and the walk.
 use Rattle.std.specs.Prelude.{◌≡◌, ◌≤◌, ◌-◌, ◌^◌, ◌+◌, ◌==◌, ◌&&◌, nat_le, nat_lt, if◌then◌else◌}
 use Rattle.std.specs.Prelude.{ℕ, Bool}
@@ -45,7 +45,7 @@ sizes_found long block =
     if is_cache long block then sizes_spelled long (sizes_in block) else Err NotACache
 
 -- a file of this length begins with the superblock of these sizes, and has both halves
-pub record Begins (long : ℕ) (block : List ℕ) (sizes : Sizes) : Type 0 where
+pub record FileBegins (long : ℕ) (block : List ℕ) (sizes : Sizes) : Type 0 where
   pub block_is : block ≡ superblock_bytes sizes
   pub lawful : IsGeometry sizes
   pub halves : roots_at sizes ≤ long
@@ -64,7 +64,7 @@ abbrev pub good_head : Sizes → Option HalfHead → Result (Option HalfHead) Da
 good_head sizes None = Err damage.Head
 good_head sizes (Some h) = if is_good_head sizes h then Ok (Some h) else Err damage.Head
 
--- the head of a half, where it is open, by its slot 0
+-- the head of a half, if it is open, by its slot 0
 unfoldable pub open_head : Sizes → List ℕ → Result (Option HalfHead) Damage
 open_head sizes slot = if is_open slot then good_head sizes (half_head_in slot) else Ok None
 
@@ -94,10 +94,10 @@ pub record Found : Type 0 where
   -- the half that counts, and its head
   pub half : Half
   pub head : HalfHead
-  -- what lives, each class with the slot of its entry, and the number of the last command
+  -- the live rows, each class with the slot of its entry, and the number of the last command
   pub rows : List (Row DefinedAt)
   pub number : ℕ
-  -- the first slot behind the groups: a gate that isn't open, or the half's end
+  -- the first slot after the groups: a gate that isn't open, or the half's end
   pub end : ℕ
 
 abbrev pub half_in : Sizes → List ℕ → Half → List ℕ
@@ -116,7 +116,7 @@ found_walked sizes c w = record {
   end = w.slot;
 }
 
--- the walk through the half that counts, from its first slot behind the head to its end
+-- the walk through the half that counts, from its first slot after the head to its end
 abbrev pub walk_through : Sizes → Counting → List ℕ → Result Walked FileFault
 walk_through sizes c half =
     walk sizes (first_slot sizes c.half) half (sizes.slots - 1) (start c.head)

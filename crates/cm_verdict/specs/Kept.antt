@@ -1,4 +1,4 @@
--- What is read of a record's words: the record, where its class keeps the class rules.
+-- What is read from a record's words: the record, if its class keeps the class rules.
 use Rattle.std.specs.Prelude.{◌≡◌, ℕ, List, Option, Some, None, is_some, true, false}
 use Rattle.cm_verdict.specs.Verdict.{class_kept}
 

@@ -1,5 +1,5 @@
--- What the verdict has to do with what contents frame and stand for: it is Ok exactly where they
--- do.
+-- How the verdict relates to what contents frame and stand for: it is Ok exactly if they stand for
+-- a cache.
 use Rattle.std.specs.Prelude.{◌≡◌, ◌≤◌, ℕ, ◌+◌, ◌*◌, ◌^◌, List, [], ◌∷◌, length, map, Ok}
 use Rattle.cm_record.specs.Layout.{lay}
 use Rattle.cm_pool.specs.Geometry.{Sizes, IsGeometry}
@@ -8,7 +8,7 @@ use Rattle.cm_layout.specs.declared.row.Row.TheVariants.{Loader, Class}
 use Rattle.cm_layout.specs.Offsets.{slot_size, roots_at, root_at}
 use Rattle.cm_layout.specs.Rows.{rows_with, bare}
 use Rattle.cm_layout.specs.Frames.{LiveRowsKeep, Frames}
-use Rattle.cm_layout.specs.Framing.{Framing, IsRight, Matches, used_size}
+use Rattle.cm_layout.specs.Framing.{Framing, IsRightFraming, Matches, used_size}
 use Rattle.cm_state.specs.State.{CacheState, NamesDiffer, class_shows}
 use Rattle.cm_state.specs.Stands.{Arenas, EachKeepsRules, Stands}
 use Rattle.cm_verdict.specs.declared.defined_at.DefinedAt.{DefinedAt}
@@ -42,12 +42,12 @@ pub record IsFramed (contents : List ℕ) (f : Found) : Type 0 where
   pub counting_is : framing.counting ≡ f.half
   pub head_is : framing.head ≡ f.head
   pub end_is : used_size framing ≡ slot_size * f.end
-  pub right : IsRight f.sizes framing (words_found contents f) f.number
+  pub right : IsRightFraming f.sizes framing (words_found contents f) f.number
   pub matches : Matches f.sizes framing (words_found contents f) contents
   pub frames : Frames f.sizes contents (words_found contents f) f.number
 
 -- what was found are live rows that keep the rules at the number of the last command, wherever
--- their records lie, in a file that is as long as its halves ask
+-- their records lie, in a file that is as long as its halves require
 pub record IsLive (contents : List ℕ) (f : Found) : Type 0 where
   pub lawful : IsGeometry f.sizes
   pub long : roots_at f.sizes ≤ length contents
@@ -57,13 +57,13 @@ pub record IsLive (contents : List ℕ) (f : Found) : Type 0 where
 abbrev pub FoundIsLive : Type 0
 FoundIsLive = (contents : List ℕ) (f : Found) → found_in contents ≡ Ok f → IsLive contents f
 
--- What is found in contents is what they frame, where the records lie in whole roots.
+-- What is found in contents is what they frame, if the records lie in whole roots.
 abbrev pub FoundIsFramed : Type 0
 FoundIsFramed =
     (contents : List ℕ) (f : Found) → found_in contents ≡ Ok f
     → AreWhole f.sizes (length contents) f.rows → IsFramed contents f
 
--- this is found, of these sizes, rows and number
+-- this is found in the contents, with these sizes, rows and number
 pub record IsFound (sizes : Sizes) (contents : List ℕ) (rows : List (Row (List ℕ)))
     (number : ℕ) (f : Found) : Type 0 where
   pub found : found_in contents ≡ Ok f
@@ -81,8 +81,8 @@ FramedIsFound =
 
 -- ---- what contents stand for
 
--- the file stands for the state, arenas and number of this verdict, whose classes have the records
--- that were found, keep the class rules, and differ by name in each loader
+-- the file stands for the state, arenas and number of this verdict; its classes have the records
+-- that were found, keep the class rules, and have different names in each loader
 pub record Proves (contents : List ℕ) (s : Standing) : Type 0 where
   pub stands : Stands s.found.sizes contents (state_in s) (arenas_in s) s.found.number
   pub found : found_in contents ≡ Ok s.found
@@ -91,7 +91,7 @@ pub record Proves (contents : List ℕ) (s : Standing) : Type 0 where
   pub kept : EachKeepsRules s.rows
   pub differ : NamesDiffer class_shows [] s.rows
 
--- Where the verdict is Ok, the contents stand for what it says.
+-- If the verdict is Ok, the contents stand for what it says.
 abbrev pub VerdictStands : Type 0
 VerdictStands = (contents : List ℕ) (s : Standing) → verdict contents ≡ Ok s → Proves contents s
 
@@ -104,7 +104,7 @@ pub record IsVerdict (sizes : Sizes) (contents : List ℕ) (m : CacheState) (are
   pub arenas_are : arenas_in s ≡ arenas
   pub number_is : s.found.number ≡ number
 
--- What contents stand for, the verdict says.
+-- If contents stand for a cache, the verdict says so.
 abbrev pub StandsInVerdict : Type 0
 StandsInVerdict =
     (sizes : Sizes) (contents : List ℕ) (m : CacheState) (arenas : Arenas) (number : ℕ)

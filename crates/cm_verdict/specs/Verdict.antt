@@ -1,7 +1,7 @@
 -- The verdict on a file: what is found in it without records, and then a second pass over the
--- records of the classes that live, in the order of their rows. A record has to lie in a whole
--- root; its words have to be those of a class that keeps the class rules; and no class before it in
--- its loader may have its name.
+-- records of the live classes, in the order of their rows. A record has to lie in a whole root; its
+-- words have to be those of a class that keeps the class rules; and no class before it in its
+-- loader may have its name.
 use Rattle.std.specs.Prelude.{ℕ, ◌+◌, ◌*◌, ◌^◌, ◌&&◌, nat_le, nat_lt, Bool, if◌then◌else◌, List, []}
 use Rattle.std.specs.Prelude.{◌∷◌, ◌++◌, length, get_or}
 use Rattle.std.specs.Prelude.{Option, Some, None, Result, Ok, Err, is_none}
@@ -33,7 +33,7 @@ use Rattle.cm_verdict.specs.Found.{Found, found_in}
 abbrev pub if_kept : ClassFile → Option ClassFile
 if_kept c = if is_none (fault c) then Some c else None
 
--- what says the class's numbers and counts are words of 64 bits, as a file's words always are
+-- the words that hold the class's numbers and counts have 64 bits, as a file's words always have
 abbrev pub are_words : List ℕ → Bool
 are_words words = nat_lt (get_or words 1 0) (2 ^ 64) && nat_lt (get_or words 2 0) (2 ^ 64)
 
@@ -49,7 +49,7 @@ words_at sizes contents place =
 abbrev pub is_whole : Sizes → ℕ → Place → Bool
 is_whole sizes long place = nat_le (root_at sizes (place.chunk.root + 1)) long
 
--- the class of a row, behind those before it
+-- the class of a row, after those before it
 abbrev pub if_new : List (Row ClassFile) → ClassRow → Option ClassFile → Result ClassFile Damage
 if_new before r None = Err damage.Record
 if_new before r (Some c) =
@@ -64,7 +64,7 @@ class_found sizes contents before r =
 
 -- ---- all of them
 
--- the rows with their classes, behind those before them
+-- the rows with their classes, after those before them
 unfoldable pub classes_found : Sizes → List ℕ → List (Row ClassFile) → List (Row DefinedAt)
     → Result (List (Row ClassFile)) FileFault
 classes_found sizes contents before [] = Ok before

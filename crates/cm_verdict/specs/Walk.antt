@@ -1,5 +1,5 @@
 -- The walk through the half that counts: live rows first, then groups, until a gate isn't open or
--- the half ends. Of a row or an entry what its slots spell is looked at first, then the rules on
+-- the half ends. For a row or an entry, what its slots spell is checked first, then the rules on
 -- rows, then those on chunks.
 use Rattle.std.specs.Prelude.{ℕ, zero, suc, ◌+◌, ◌-◌, ◌*◌, ◌^◌, ◌==◌, ◌&&◌, nat_le, nat_lt, Bool}
 use Rattle.std.specs.Prelude.{true, false, if◌then◌else◌, List, [], ◌∷◌, ◌++◌, take, drop}
@@ -24,7 +24,8 @@ use Rattle.cm_verdict.specs.declared.fault.Damage.TheVariants as damage
 use Rattle.cm_verdict.specs.declared.fault.FileFault.{FileFault}
 use Rattle.cm_verdict.specs.declared.fault.FileFault.TheVariants.{Damaged}
 use Rattle.cm_verdict.specs.Faults.{damage_of}
-use Rattle.cm_verdict.specs.Decoding.{is_open, front, group_head_in, row_in, entry_in, numbers_of}
+use Rattle.cm_verdict.specs.Decoding.{is_open, front, group_head_in, row_in, entry_in}
+use Rattle.cm_verdict.specs.Decoding.{numbers_taken}
 
 -- a class, with the slot of the entry that defined it
 abbrev pub defined_at : ℕ → DefinedAt
@@ -36,20 +37,21 @@ placed_row slot row = row_with (λ u. defined_at slot) row
 abbrev pub placed_entry : ℕ → BareEntry → Entry DefinedAt
 placed_entry slot e = entry_with (λ u. defined_at slot) e
 
--- How far a half has been gone over.
+-- How far the walk through a half has come.
 pub record Walked : Type 0 where
   -- the version of the half's entries
   pub version : ℕ
   -- the next slot
   pub slot : ℕ
-  -- what lives, and the number of the last command
+  -- the live rows, and the number of the last command
   pub rows : List (Row DefinedAt)
   pub number : ℕ
-  -- how many slots of the live rows, or else of the group, are still to come
+  -- whether the walk is still in the live rows, and how many slots of these, or of the current
+  -- group, are still to come
   pub live : Bool
   pub left : ℕ
 
--- What the next slots say: the half ends, what was gone over after them, or their damage.
+-- What the next slots say: the half ends, the walk continues like this, or they are damaged.
 pub data Turn : Type 0 where
   Stop : Turn
   Go : Walked → Turn
@@ -57,7 +59,7 @@ pub data Turn : Type 0 where
 
 -- ---- one row, entry or head
 
--- behind so many slots
+-- the walk after `taken` slots
 abbrev pub behind_slots : Walked → ℕ → List (Row DefinedAt) → ℕ → Walked
 behind_slots w taken rows number = record {
   version = w.version;
@@ -87,13 +89,13 @@ entry_turn sizes first w (Some e) =
     (behind_slots w (slots_of e) (rows_after w.rows (placed_entry (first + w.slot) e))
     (w.number + 1))
 
--- a group's head is good: the group has slots, at most 64, they lie in the half, and the numbers of
--- its entries go on from the last one and don't pass 2^63
+-- a group's head is good: the group has at least one slot and at most 64, they lie in the half, and
+-- the numbers of its entries continue from the last one and don't exceed 2^63
 abbrev pub is_good_group : Sizes → Walked → GroupHead → List ℕ → Bool
 is_good_group sizes w h entries =
     nat_le 1 h.count && nat_le h.count group_limit && nat_le (w.slot + h.count) (sizes.slots - 1)
     && (h.first == w.number + 1)
-    && nat_le (w.number + numbers_of w.version h.count entries) (2 ^ 63)
+    && nat_le (w.number + numbers_taken w.version h.count entries) (2 ^ 63)
 
 abbrev pub begun : Walked → GroupHead → Walked
 begun w h = record {
@@ -110,14 +112,14 @@ group_turn sizes w entries None = Bad damage.Head
 group_turn sizes w entries (Some h) =
     if is_good_group sizes w h entries then Go (begun w h) else Bad damage.Head
 
--- the slot behind live rows and behind each group is a gate
+-- the slot after the live rows and after each group is a gate
 abbrev pub gate_turn : Sizes → Walked → List ℕ → Turn
 gate_turn sizes w slots =
     if is_open slots
     then group_turn sizes w (drop slot_size slots) (group_head_in (front slots)) else Stop
 
--- what the slots from here on say first: a name that is longer than a slot has room for doesn't go
--- on behind the live rows or the group
+-- what the slots from here on say first; a long name's continuation slot may not lie past the live
+-- rows or the group
 unfoldable pub turn : Sizes → ℕ → Walked → List ℕ → Turn
 turn sizes first w slots =
     if w.left == 0 then gate_turn sizes w slots
@@ -130,14 +132,14 @@ turn sizes first w slots =
 abbrev pub from_slot : List ℕ → ℕ → List ℕ
 from_slot half slot = drop (slot_size * slot) half
 
--- how a walk goes on behind slots, the first of which has this number, counted over both halves
+-- how a walk continues after slots, the first of which has this number, counted over both halves
 abbrev pub on_turn : ℕ → Walked → (Walked → Result Walked FileFault) → Turn
     → Result Walked FileFault
 on_turn at w go_on Stop = Ok w
 on_turn at w go_on (Go next) = go_on next
 on_turn at w go_on (Bad what) = Err (Damaged what at)
 
--- to the half's end, in so many turns at most
+-- the walk to the half's end, in at most this many turns
 unfoldable pub walk : Sizes → ℕ → List ℕ → ℕ → Walked → Result Walked FileFault
 walk sizes first half zero w = Ok w
 walk sizes first half (suc turns) w =
@@ -145,7 +147,7 @@ walk sizes first half (suc turns) w =
     then on_turn (first + w.slot) w (λ next. walk sizes first half turns next)
     (turn sizes first w (from_slot half w.slot)) else Ok w
 
--- before the first slot behind the half's head
+-- the walk before the first slot after the half's head
 abbrev pub start : HalfHead → Walked
 start h = record {
   version = h.version;

@@ -1,4 +1,4 @@
--- A walk in memory, seen as what the definitions say of it.
+-- A walk in memory, and what the definitions say of it.
 use Rattle.std.specs.Prelude.{◌≡◌, ◌≤◌, ◌+◌, ◌^◌, true, Result, Ok, Err}
 use Rattle.cm_rows.specs.Rows.{is_above}
 use Rattle.cm_verdict.specs.declared.fault.Damage.{Damage}
@@ -18,8 +18,8 @@ walked h = record {
   left = h.left;
 }
 
--- what holds between two turns: the book is of these sizes, all loaders have numbers of the past,
--- each slot behind the base gave one number at most, and what is left lies in the half
+-- what holds between two turns: the rows are of these sizes, all loaders have numbers already used,
+-- each slot since the base has given at most one number, and what is left lies in the half
 pub record IsSteady (h : HalfWalk) : Type 0 where
   pub sizes : h.book.sizes ≡ h.geometry
   pub above : is_above (h.number + 1) h.book.rows ≡ true
@@ -35,17 +35,17 @@ pub record IsSameWalk (old new : HalfWalk) : Type 0 where
   pub first : new.first ≡ old.first
 
 -- what slots of live rows or of a group say
-abbrev pub IsStep : Result (Unit {0}) Damage → Walked → Turn → Type 0
-IsStep (Ok u) next t = t ≡ Go next
-IsStep (Err what) next t = t ≡ Bad what
+abbrev pub IsWalkTurn : Result (Unit {0}) Damage → Walked → Turn → Type 0
+IsWalkTurn (Ok u) next t = t ≡ Go next
+IsWalkTurn (Err what) next t = t ≡ Bad what
 
--- what the next slots say; where the half ends, nothing has changed
+-- what the next slots say; if the half ends, nothing has changed
 abbrev pub IsTurn : Result WalkStep Damage → Walked → Walked → Turn → Type 0
 IsTurn (Ok On) old next t = t ≡ Go next
 IsTurn (Ok End) old next t = (t ≡ Stop) × (next ≡ old)
 IsTurn (Err what) old next t = t ≡ Bad what
 
--- what a walk comes to
+-- the result of a walk
 abbrev pub IsWalk : Result HalfWalk FileFault → Result Walked FileFault → Type 0
 IsWalk (Ok h) r = r ≡ Ok (walked h)
 IsWalk (Err fault) r = r ≡ Err fault

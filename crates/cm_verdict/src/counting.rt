@@ -41,7 +41,7 @@ fn is_good_head(geometry: Geometry, head: &HalfHead) -> bool
         && head.epoch <= head.base + u64::from(head.version)
 }
 
-// The head of a half, where it is open, by its slot 0.
+// The head of a half, if it is open, by its slot 0.
 #[tactic(auto, unfolding(crate::specs::Found::open_head))]
 fn open_head(geometry: Geometry, slot: &[u8; SLOT_BYTES]) -> Result<Option<HalfHead>, Damage>
     ensures { result ≡ open_head_of geometry slot.now }
@@ -80,7 +80,7 @@ fn which_half(zero: Option<HalfHead>, one: Option<HalfHead>) -> Result<Counting,
     }
 }
 
-// Of two open halves the one of greater epoch.
+// Of two open halves, the one of greater epoch.
 fn later_half(zero: HalfHead, one: HalfHead) -> Result<Counting, Damage>
     ensures { result ≡ which_half_of (Some zero) (Some one) }
 {
@@ -99,7 +99,7 @@ fn later_half(zero: HalfHead, one: HalfHead) -> Result<Counting, Damage>
     })
 }
 
-// A damage, with the slot where it was met.
+// A damage, with the slot where it was found.
 fn at_slot<T>(slot: u32, found: Result<T, Damage>) -> Result<T, FileFault>
     ensures { result ≡ at_slot_of slot found }
 {
@@ -123,8 +123,8 @@ fn chosen_half(
 }
 
 /// The half that counts, by slot 0 of both halves: the open one of greater epoch. The head of each
-/// open half has to be good, that of half 0 is looked at first; and where none is open, or both
-/// with one epoch, no half counts.
+/// open half has to be good; that of half 0 is checked first. If none is open, or both have the
+/// same epoch, no half counts.
 pub fn counting_half(
     geometry: Geometry,
     head_0: &[u8; SLOT_BYTES],

@@ -61,7 +61,7 @@ pub(crate) fn row_in(version: u16, slots: &[u8]) -> Option<Row<()>>
     }
 }
 
-// That the numbers of a type fit the fields of its slot is known where they are read.
+// Where the numbers of a type are read, they are known to fit the fields of its slot.
 
 fn fits_half_head(head: &HalfHead)
     ensures { FitsHalfHead head.now }

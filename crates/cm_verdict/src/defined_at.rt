@@ -1,18 +1,18 @@
-//! What is kept of a class while a file is gone over.
+//! What is kept of a class while a file is checked.
 
 ghost use Rattle.std.specs.Prelude.{[]};
 
 use cm_rows::Kept;
 use std::cmp::Ordering;
 
-/// The slot of the entry that defined a class, counted over both halves, so that what is wrong with
-/// the class's record can be told.
+/// The slot of the entry that defined a class, counted over both halves, so that a fault in the
+/// class's record can be reported there.
 #[derive(Clone, Copy, Debug, PartialEq, Eq, Drop)]
 pub struct DefinedAt {
     pub slot: u32,
 }
 
-/// Classes aren't looked for by name before their records are read: all have no name.
+/// Classes aren't looked up by name before their records are read: none of them has a name.
 impl Kept for DefinedAt {
     ghost name = { λ class. [] };
 

@@ -15,7 +15,7 @@ pub enum Damage {
     Superblock,
     /// The file ends before its halves do.
     Length,
-    /// No half is open, or both are with one epoch.
+    /// No half is open, or both are, with the same epoch.
     Halves,
     /// The head of an open half, or that of a group, isn't good.
     Head,
@@ -23,17 +23,18 @@ pub enum Damage {
     Slot,
     /// A rule on loaders, names, numbers or how many rows there are is broken.
     Rows,
-    /// A rule on chunks, offsets or sizes is broken, or a record lies behind the file's last whole
+    /// A rule on chunks, offsets or sizes is broken, or a record lies after the file's last whole
     /// root.
     Chunks,
-    /// The words of a record are no class's that keeps the class rules.
+    /// The words of a record belong to no class that keeps the class rules.
     Record,
     /// A loader has two classes of one name.
     ClassTwice,
 }
 
 impl Damage {
-    /// Its number, from 1 to 9. Of two damages of one slot the lower is told.
+    /// Its number, from 1 to 9. Of two damages at one slot, the one with the lower number is
+    /// reported.
     pub fn number(self) -> u8
         ensures { result ≡ damage_number self }
     {
@@ -54,11 +55,12 @@ impl Damage {
 /// Why a file stands for no cache.
 #[derive(Clone, Copy, Debug, PartialEq, Eq)]
 pub enum FileFault {
-    /// It is shorter than a superblock, or its first bytes or the gate of its superblock are
-    /// others.
+    /// It is shorter than a superblock, or its first bytes or its superblock's gate differ from
+    /// those of a cache.
     NotACache,
-    /// The first damage, with the slot where it was met: slots are counted over both halves, and a
-    /// record's is that of the entry that defined its class. Where no slot is meant it is 0.
+    /// The first damage, with the slot where it was found: slots are counted over both halves, and
+    /// a record's slot is that of the entry that defined its class. The slot is 0 if the damage is
+    /// at no slot.
     Damaged { what: Damage, slot: u32 },
 }
 

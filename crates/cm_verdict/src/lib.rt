@@ -1,4 +1,4 @@
-//! The verdict on a file: what a region file holds, or the first damage in the order of recovery.
+//! The verdict on a file: what a region file holds, or its first damage in the order of recovery.
 #![tactic(auto)]
 
 mod counting;

@@ -22,7 +22,7 @@ fn keeps_rules(alloc: Global, class: &Class) -> Result<bool, AllocError>
 }
 
 // Whether these words are the record of a class that keeps the class rules. The class is judged
-// over the words, and spelled in the buffer if it isn't seen there to keep them.
+// over the words; only if they don't show that it keeps the rules is it spelled in the buffer.
 fn are_kept(alloc: Global, buffer: &mut Vec<u8>, words: &[u64]) -> Result<bool, AllocError>
     requires { length words.now ≤ limit }
     ensures { IfOk result (λ kept. kept ≡ is_some (class_kept words.now)) }
@@ -30,7 +30,7 @@ fn are_kept(alloc: Global, buffer: &mut Vec<u8>, words: &[u64]) -> Result<bool, 
     if !is_record(words) {
         return Ok(false);
     }
-    // Nearly every class keeps the rules, and is seen to over the words.
+    // Nearly every class keeps the rules, which the words alone show.
     if judge_words(alloc, buffer, words) {
         return Ok(true);
     }
@@ -45,7 +45,8 @@ fn are_kept(alloc: Global, buffer: &mut Vec<u8>, words: &[u64]) -> Result<bool, 
 }
 
 /// The record of these words, if they are that of a class that keeps the class rules. Its class is
-/// spelled in the buffer, of which nothing is kept: one serves for any number of records.
+/// spelled in the buffer, whose contents aren't used afterwards: one buffer serves for any number
+/// of records.
 pub fn read_record(
     alloc: Global,
     buffer: &mut Vec<u8>,

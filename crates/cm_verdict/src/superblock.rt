@@ -22,8 +22,8 @@ fn has_magic(block: &[u8]) -> bool
     front == MAGIC.as_slice()
 }
 
-/// Whether a file of this length, which begins with this block, is a cache at all: it has room for
-/// a superblock, which begins as one and is open.
+/// Whether a file of this length that begins with this block is a cache at all: it has room for a
+/// superblock, the block begins as one, and its gate is open.
 fn is_cache(long: u64, block: &[u8]) -> bool
     requires { length block.now ≡ superblock_size }
     ensures { result ≡ is_cache_of long block.now }
@@ -31,7 +31,7 @@ fn is_cache(long: u64, block: &[u8]) -> bool
     long >= SUPERBLOCK_BYTES as u64 && has_magic(block) && block[SUPERBLOCK_BYTES - 1] == OPEN_GATE
 }
 
-/// The sizes that a superblock spells, if it does.
+/// The sizes that a superblock spells, if it spells any.
 fn sizes_in(block: &[u8]) -> Option<Geometry>
     ensures { result ≡ sizes_spelled block.now }
 {
@@ -41,7 +41,7 @@ fn sizes_in(block: &[u8]) -> Option<Geometry>
     Some(geometry)
 }
 
-/// The sizes of a file of this length, which begins with this block.
+/// The sizes of a file of this length that begins with this block.
 pub fn find_sizes(long: u64, block: &[u8]) -> Result<Geometry, FileFault>
     requires { length block.now ≡ superblock_size }
     ensures { result ≡ sizes_found_in long block.now }

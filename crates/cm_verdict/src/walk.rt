@@ -7,14 +7,15 @@ ghost use Rattle.cm_layout.specs.Frames.{IsGoodHead};
 ghost use Rattle.cm_verdict.specs.Faults.{damage_of as damage_of_rule};
 ghost use Rattle.cm_verdict.specs.Decoding.{row_in as row_spelled, entry_in as entry_spelled};
 ghost use Rattle.cm_verdict.specs.Decoding.{group_head_in as group_head_spelled, numbers_in};
-ghost use Rattle.cm_verdict.specs.Decoding.{numbers_of};
+ghost use Rattle.cm_verdict.specs.Decoding.{numbers_taken};
 ghost use Rattle.cm_verdict.specs.Walk.{placed_row as placed_row_at};
 ghost use Rattle.cm_verdict.specs.Walk.{placed_entry as placed_entry_at, live_turn as live_turn_of};
 ghost use Rattle.cm_verdict.specs.Walk.{entry_turn as entry_turn_of, is_good_group};
 ghost use Rattle.cm_verdict.specs.Walk.{gate_turn as gate_turn_of, turn as turn_of, walk};
 ghost use Rattle.cm_verdict.specs.Walk.{start, first_slot as first_slot_of};
 ghost use Rattle.cm_verdict.specs.Found.{walk_through as walk_through_of};
-ghost use Rattle.cm_verdict.specs.Walking.{walked, IsSteady, IsSameWalk, IsStep, IsTurn, IsWalk};
+ghost use Rattle.cm_verdict.specs.Walking.{walked, IsSteady, IsSameWalk, IsWalkTurn, IsTurn};
+ghost use Rattle.cm_verdict.specs.Walking.{IsWalk};
 
 use crate::counting::Counting;
 use crate::decode::{entry_in, group_head_in, row_in};
@@ -25,36 +26,36 @@ use cm_layout::{
     SLOT_BYTES, front_slot, is_rest,
 };
 use cm_pool::Geometry;
-use cm_rows::Book;
+use cm_rows::LiveRows;
 
-/// How far a half of the journal has been gone over.
+/// How far the walk through a half of the journal has come.
 #[derive(Drop)]
 pub struct HalfWalk {
     geometry: Geometry,
     /// The version of the half's entries.
     version: u16,
-    /// What lives.
-    book: Book<DefinedAt>,
+    /// The live rows.
+    book: LiveRows<DefinedAt>,
     /// The number of the half's slot 0, counted over both halves.
     first: u32,
     /// The next slot of the half.
     slot: u32,
     /// The number of the last command.
     number: u64,
-    /// Whether live rows are gone over, and no groups yet.
+    /// Whether the walk is still in the live rows, before any group.
     live: bool,
-    /// How many slots of the live rows, or else of the group, are still to come.
+    /// How many slots of the live rows, or of the current group, are still to come.
     left: u32,
 }
 
-/// How a walk goes on.
+/// How a walk continues.
 #[derive(Clone, Copy, Debug, PartialEq, Eq)]
 enum WalkStep {
     On,
     End,
 }
 
-// The damage that an entry does which breaks a rule.
+// The damage that an entry is which breaks this rule.
 fn damage_of(rule: EntryRule) -> Damage
     ensures { result ≡ damage_of_rule rule }
 {
@@ -74,7 +75,7 @@ fn placed_row(slot: u32, row: Row<()>) -> Row<DefinedAt>
     }
 }
 
-// The entry, with its slot where it defines a class.
+// The entry, with its slot if it defines a class.
 fn placed_entry(slot: u32, entry: Entry<()>) -> Entry<DefinedAt>
     ensures { result ≡ placed_entry_at slot entry }
 {
@@ -101,20 +102,20 @@ impl HalfWalk {
         self.slot
     }
 
-    /// What lives, each class with the slot of its entry.
-    pub fn into_book(self) -> Book<DefinedAt>
+    /// The live rows, each class with the slot of its entry.
+    pub fn into_book(self) -> LiveRows<DefinedAt>
         ensures { result.rows ≡ (walked self).rows }
     {
         self.book
     }
 
-    // A live row. The slots are those of the live rows that are still to come.
+    // Takes a live row. `slots` are those of the live rows that are still to come.
     fn live_turn(&mut self, slots: &[u8]) -> Result<(), Damage>
         requires steady { IsSteady self.old }
         requires live { self.old.live ≡ true }
         requires some { 1 ≤ self.old.left }
         requires slots { length slots.now ≡ slot_size * self.old.left }
-        ensures turned { IsStep result (walked self.new)
+        ensures turned { IsWalkTurn result (walked self.new)
             (live_turn_of self.old.geometry self.old.first (walked self.old)
             (row_spelled self.old.version slots.now)) }
         ensures steady { OnOk result (IsSteady self.new) }
@@ -133,13 +134,13 @@ impl HalfWalk {
         Ok(())
     }
 
-    // An entry of a group. The slots are those of the group that are still to come.
+    // Takes an entry of a group. `slots` are those of the group that are still to come.
     fn entry_turn(&mut self, slots: &[u8]) -> Result<(), Damage>
         requires steady { IsSteady self.old }
         requires live { self.old.live ≡ false }
         requires some { 1 ≤ self.old.left }
         requires slots { length slots.now ≡ slot_size * self.old.left }
-        ensures turned { IsStep result (walked self.new)
+        ensures turned { IsWalkTurn result (walked self.new)
             (entry_turn_of self.old.geometry self.old.first (walked self.old)
             (entry_spelled self.old.version slots.now)) }
         ensures steady { OnOk result (IsSteady self.new) }
@@ -159,7 +160,7 @@ impl HalfWalk {
         Ok(())
     }
 
-    // Whether the head of a group is good that stands in the next slot, with these slots behind it.
+    // Whether the head of a group in the next slot is good, if these slots follow it.
     fn is_good_group(&self, head: &GroupHead, entries: &[u8]) -> bool
         requires steady { IsSteady self.now }
         requires entries { length entries.now + slot_size * (self.now.slot + 1)
@@ -171,10 +172,10 @@ impl HalfWalk {
             && count as usize <= GROUP_SLOTS
             && self.slot + count <= self.geometry.slots() - 1
             && head.first == self.number + 1
-            && self.number + numbers_of(self.version, head.count, entries) <= LAST_NUMBER
+            && self.number + numbers_taken(self.version, head.count, entries) <= LAST_NUMBER
     }
 
-    // A gate: the head of a group, or the half's end.
+    // Takes a gate: the head of a group, or the half's end.
     fn gate_turn(&mut self, slots: &[u8]) -> Result<WalkStep, Damage>
         requires steady { IsSteady self.old }
         requires none { self.old.left ≡ 0 }
@@ -201,7 +202,7 @@ impl HalfWalk {
         Ok(WalkStep::On)
     }
 
-    // What the slots from here on say first.
+    // Takes the first row, entry or gate that the slots from here on spell.
     #[tactic(auto, unfolding(crate::specs::Walk::turn))]
     fn turn(&mut self, slots: &[u8]) -> Result<WalkStep, Damage>
         requires steady { IsSteady self.old }
@@ -225,8 +226,8 @@ impl HalfWalk {
         Ok(WalkStep::On)
     }
 
-    // The beginning of a walk through the half that counts, behind its head.
-    fn new(geometry: Geometry, book: Book<DefinedAt>, counts: &Counting) -> HalfWalk
+    // The beginning of a walk through the half that counts, after its head.
+    fn new(geometry: Geometry, book: LiveRows<DefinedAt>, counts: &Counting) -> HalfWalk
         requires book { book ≡ record { sizes = geometry; rows = [] } }
         requires good { IsGoodHead geometry counts.now.head }
         ensures walked { walked result ≡ start counts.now.head }
@@ -251,7 +252,7 @@ impl HalfWalk {
         }
     }
 
-    // Walks through the half to its end: what was gone over, or the first damage.
+    // Walks through the half to its end. The result is the finished walk, or the first damage.
     fn walk_all(mut self, half: &[u8]) -> Result<HalfWalk, FileFault>
         requires steady { IsSteady self }
         requires begin { self.slot ≡ 1 }
@@ -259,7 +260,7 @@ impl HalfWalk {
         ensures { IsWalk result (walk self.geometry self.first half.now (self.geometry.slots - 1)
             (walked self)) }
     {
-        // A turn takes a slot at least, and two where a loader has a long name.
+        // A turn takes at least one slot, and two for a loader with a long name.
         for _turn in 1..self.geometry.slots() {
             let at = self.slot;
             if at >= self.geometry.slots() {
@@ -278,12 +279,12 @@ impl HalfWalk {
     }
 }
 
-/// Goes through the slots of the half that counts, live rows first, then groups: what lives, or the
-/// first damage. The book has no rows; nothing takes memory. The head is a good one, as
-/// [`counting_half`](crate::counting_half) gives it.
+/// Goes through the slots of the half that counts, live rows first, then groups. The result is the
+/// finished walk, or the first damage. `book` has no rows; nothing is allocated. The head is a good
+/// one, as [`counting_half`](crate::counting_half) returns it.
 pub fn walk_through(
     geometry: Geometry,
-    book: Book<DefinedAt>,
+    book: LiveRows<DefinedAt>,
     counts: &Counting,
     half: &[u8],
 ) -> Result<HalfWalk, FileFault>
@@ -295,11 +296,11 @@ pub fn walk_through(
     HalfWalk::new(geometry, book, counts).walk_all(half)
 }
 
-// How many of a group's slots take a number: all but the rests of names, of which the oldest
-// version knows none.
-fn numbers_of(version: u16, count: u16, slots: &[u8]) -> u64
+// How many of a group's slots take a number: all but continuation slots of names, which version 1
+// doesn't have.
+fn numbers_taken(version: u16, count: u16, slots: &[u8]) -> u64
     requires { slot_size * count ≤ length slots.now }
-    ensures value { result ≡ numbers_of version count slots.now }
+    ensures value { result ≡ numbers_taken version count slots.now }
     ensures few { result ≤ count }
 {
     if version == OLDEST_VERSION {

@@ -1,4 +1,4 @@
--- The layout of a block of places, as an allocator is asked for it.
+-- The layout of a block of places, as it is requested from an allocator.
 -- For `Cells::slice`, `allocate`, `deallocate`.
 use mathlib.Core.Path.{◌≡◌, sym, ap, ◌∙◌}
 use Prim.Native.Nat.{ℕ, zero, suc, ◌*◌, ◌<◌, ◌^◌}
@@ -16,7 +16,7 @@ use Rattle.std.proofs.mem.Param.{El, elτ}
 use Rattle.std.proofs.alloc.Calls.{Al}
 use Rattle.cm_words.proofs.Memory.{sz}
 
--- where the product fits a word, the count is zero or the size fits too
+-- if the product fits into a word, the count is zero or the size fits too
 pub uncapped : (i k : ℕ) → i * k < 2 ^ 64 → i * capped k ≡ i * k
 uncapped zero k h = zero-mul (capped k) ∙ sym (zero-mul k)
 uncapped (suc i) k h = let up = suc-mul i k in ap (λ (j : ℕ). suc i * j) (capped_is k (omega arith))

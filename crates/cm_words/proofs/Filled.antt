@@ -55,7 +55,7 @@ module _ {X : Type 0} where
   filled-more x xs n = let left : suc n - suc (length xs) ≡ n - length xs = omega arith in ap
       (λ (k : ℕ). Some x ∷ (map Some xs ++ replicate k None)) left
 
-  -- one value more in the first empty place
+  -- one more value in the first empty place
   pub set-filled_next : (xs : List X) (n : ℕ) (x : X) → length xs < n
       → set (filled xs n) (length xs) (Some x) ≡ filled (xs ++ x ∷ []) n
   set-filled_next [] zero x h = absurd (omega arith)
@@ -67,7 +67,7 @@ module _ {X : Type 0} where
       (λ l. Some y ∷ l) (set-filled_next xs n x (omega arith))
       ∙ sym (filled-more y (xs ++ x ∷ []) n))
 
-  -- another value in the place of one
+  -- a value replaced by another
   pub set-filled : (xs : List X) (n i : ℕ) (x : X) → i < length xs → length xs ≤ n
       → set (filled xs n) i (Some x) ≡ filled (set xs i x) n
   set-filled [] n i x h le = absurd (omega arith)
@@ -79,7 +79,7 @@ module _ {X : Type 0} where
       (λ l. Some y ∷ l) (set-filled xs n i x (omega arith) (omega arith))
       ∙ sym (filled-more y (set xs i x) n))
 
-  -- one value more in the places from `from` on
+  -- one more value in the places from `from` on
   pub write_step : (start cs : List (Option X)) (xs : List X) (from i : ℕ) (x : X)
       → cs ≡ take from start ++ map Some (take i xs) ++ drop (from + i) start
       → from + length xs ≤ length start → i < length xs → x ≡ get_or xs i x

@@ -1,6 +1,6 @@
--- What the walks over the block share: how a value of one pointer, and one of no bytes, is had and
--- made, how one place or a run of places is taken out of the row of places, put back, or seen, and
--- how room for an array is a row of empty places. Assumes `Logic`.
+-- What the proofs about the block share: how to take apart and make a value of one pointer, and one
+-- of no bytes; how to take one place or a run of places out of the block's places, put it back, or
+-- view it; and how room for an array is a row of empty places. Assumes `Logic`.
 -- For `Cells::slice`, `Cells::write`, `allocate`, `deallocate`.
 use mathlib.Core.Path.{◌≡◌, refl, sym, ap, subst, ◌∙◌}
 use Prim.Native.Nat.{ℕ, zero, suc, ◌+◌, ◌*◌, ◌<◌, ◌≤◌}
@@ -193,7 +193,7 @@ module _ (E : El) {M : Type 1} {𝓤 : Ura M} (𝓛 : Logic 𝓤) (b : ℕ) wher
       fjoin ! $ done !
 
   module _ (o : ℕ) (cs : List (Place E)) (i : ℕ) where
-    -- the places but for the i-th
+    -- the places except the i-th
     abbrev pub Besides : Fml
     Besides = fsep (Row o (take i cs)) (Row (i * s + o + s) (drop (suc i) cs))
 
@@ -224,7 +224,7 @@ module _ (E : El) {M : Type 1} {𝓤 : Ura M} (𝓛 : Logic 𝓤) (b : ℕ) wher
         rewrite ! 0 (λ (l : List (Place E)). ‵ (Row o l)) (sym (set_split cs i c lt)) refl $ done !
 
     module _ (n : ℕ) where
-      -- the places but for the n from the i-th on
+      -- the places except the n from the i-th on
       abbrev pub Around : Fml
       Around = fsep (Row o (take i cs)) (Row (n * s + (i * s + o)) (drop (i + n) cs))
 
@@ -287,7 +287,7 @@ module _ (E : El) {M : Type 1} {𝓤 : Ura M} (𝓛 : Logic 𝓤) (b : ℕ) wher
       (λ good. split ! $ keep ! (0 ∷ []) $ use1 𝓛 (‵ (froom (elτ E) b o))
       (𝓛.laws.at_room (elτ E) b o v) $ done !))
 
-  -- and so are places side by side room for an array
+  -- likewise, adjacent places are room for an array
   pub to_room : (cs : List (Place E)) (o : ℕ)
       → ent 𝓤 (sem 𝓛 (Row o cs)) (H.room (ty_array (elτ E) (length cs)) b o)
   to_room [] o = 𝓛.laws.room_nil (elτ E) b o

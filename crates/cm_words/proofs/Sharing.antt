@@ -1,4 +1,4 @@
--- A `&` to the places is made where one to an item is. Assumes `Logic`.
+-- From a `&` to the places one gets a `&` to an item. Assumes `Logic`.
 -- For `Cells`.
 use Prim.Native.Nat.{ℕ, ◌+◌}
 use Rattle.std.specs.Prelude.{List, [], ◌∷◌, Option, Some, None}

@@ -21,7 +21,7 @@ length-word_bytes (w ∷ words) =
       length-word_bytes words,
     )
 
--- one word more is written
+-- one more word is written
 pub write_step : (out start words : List ℕ) (i word : ℕ)
     → out ≡ word_bytes (take i words) ++ drop (8 * i) start → i < length words
     → word ≡ get_or words i 0

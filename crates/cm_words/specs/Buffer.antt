@@ -1,4 +1,4 @@
--- How a buffer keeps its words: its block begins with them, and the rest of it is empty.
+-- How a buffer keeps its words: its block begins with them, and the other places are empty.
 use Rattle.std.specs.Prelude.{◌≡◌, ℕ, ◌^◌, ◌*◌, ◌<◌, ◌≤◌, length}
 use Rattle.std.specs.declared.alloc.Global.{Global}
 use Rattle.cm_words.specs.Places.{somes, filled}

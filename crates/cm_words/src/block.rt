@@ -1,4 +1,4 @@
-//! The block of a buffer: places side by side, each empty or holding a value. Nothing outside this
+//! The block of a buffer: adjacent places, each empty or holding a value. Nothing outside this
 //! module holds a pointer.
 ghost use Rattle.std.specs.Prelude.{◌≡◌, ℕ, ◌<◌, ◌≤◌, ◌+◌, ◌^◌, ◌++◌, List, Option, Some, None};
 ghost use Rattle.std.specs.Prelude.{map, length, take, drop, replicate, slice_set, IfOk, ⊤};
@@ -67,7 +67,7 @@ impl<T, A: Allocator> Model for Deed<T, A> {
 
 unsafe impl<T, A: Allocator + Send> Send for Deed<T, A> {}
 
-// A `&` to it holds nothing.
+// A `&` to it owns nothing.
 unsafe impl<T, A: Allocator> Sync for Deed<T, A> {}
 
 /// A block of `len` empty places.
@@ -94,7 +94,7 @@ pub(crate) fn allocate<T, A: Allocator>(
     }
 }
 
-/// Gives the block back. Values that it still holds are forgotten, and not dropped.
+/// Deallocates the block. Values that it still holds are forgotten, and not dropped.
 pub(crate) fn deallocate<T, A: Allocator>(
     alloc: &A,
     base: Base<T>,

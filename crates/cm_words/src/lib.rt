@@ -1,4 +1,4 @@
-//! A buffer of 64-bit words in one block of memory, of a fixed capacity.
+//! A buffer of 64-bit words in one block of memory, with a fixed capacity.
 #![tactic(auto)]
 
 mod block;

@@ -10,7 +10,7 @@ use std::fmt::{Debug, Formatter, Write};
 use std::marker::Model;
 
 /// A list of 64-bit words with room for a fixed number of them, in one block of memory. It may move
-/// to another thread, and several may read it.
+/// to another thread, and several threads may read it.
 pub struct WordBuf {
     base: Base<u64>,
     cells: Cells<u64>,
@@ -38,7 +38,7 @@ impl WordBuf {
     ghost use Rattle.cm_words.specs.Words.{words_of};
     ghost use Rattle.cm_words.specs.Bytes.{word_bytes};
 
-    /// An empty buffer with room for so many words, which is all the memory that it ever takes.
+    /// An empty buffer with room for `capacity` words. It never allocates more memory than that.
     pub fn with_capacity(alloc: Global, capacity: usize) -> Result<WordBuf, AllocError>
         ensures { IfOk result (λ b. b ≡ words_of [] capacity) }
     {
@@ -73,14 +73,14 @@ impl WordBuf {
         self.len
     }
 
-    /// How many more there may be.
+    /// How many more words there is room for.
     pub fn room(&self) -> usize
         ensures { result ≡ self.now.capacity - length self.now.words }
     {
         self.capacity - self.len
     }
 
-    /// Adds a word behind the others.
+    /// Adds a word after the others.
     pub fn push(&mut self, word: u64)
         requires { length self.old.words < self.old.capacity }
         ensures { self.new ≡ words_of (self.old.words ++ word ∷ []) self.old.capacity }
@@ -89,7 +89,7 @@ impl WordBuf {
         self.len += 1;
     }
 
-    /// Adds words behind the others, all at once.
+    /// Adds words after the others, all at once.
     pub fn extend_from_slice(&mut self, words: &[u64])
         requires { length self.old.words + length words.now ≤ self.old.capacity }
         ensures { self.new ≡ words_of (self.old.words ++ words.now) self.old.capacity }
@@ -98,7 +98,7 @@ impl WordBuf {
         self.len += words.len();
     }
 
-    /// Puts another word in the place of one.
+    /// Replaces a word by another.
     pub fn set(&mut self, at: usize, word: u64)
         requires { at < length self.old.words }
         ensures { self.new ≡ words_of (slice_set self.old.words at word) self.old.capacity }

@@ -1,15 +1,15 @@
--- A run with one event more.
+-- A run with one more event.
 -- For `World::run`, `World::step`.
 use Rattle.std.proofs.Common.{◌≡◌, List, [], ◌∷◌, ◌++◌, map, length, refl, sym, ap, subst, ◌∙◌}
 use Rattle.std.proofs.lemmas.List.{map-append, length-map}
 use Rattle.cm_pool.specs.Geometry.{Sizes}
-use Rattle.cm_machine.specs.Machine.{Machine}
+use Rattle.cm_commands.specs.Machine.{Machine}
 use Rattle.cm_world.specs.declared.event.Event.{Event}
 use Rattle.cm_world.specs.declared.reply.Reply.{Reply}
 use Rattle.cm_world.specs.declared.world.World.{World}
 use Rattle.cm_world.specs.Steps.{State, IsStep}
 use Rattle.cm_world.specs.Runs.{Step, Chain, IsBegun, HasRun}
-use Rattle.cm_world.specs.Moves.{state, Moves}
+use Rattle.cm_world.specs.Moves.{state, EventMoves}
 
 chain_more : (sizes : Sizes) (first last : State) (steps : List Step) (s : Step)
     → Chain sizes first steps last → s.before ≡ last → IsStep sizes s.event s.reply s.before s.after
@@ -32,12 +32,13 @@ map_same (x ∷ xs) = ap (λ l. x ∷ l) (map_same xs)
 
 -- an event by another name
 pub same_moves : (k : Machine) (old : World) (e f : Event) (r s : Reply) (a b : World) → e ≡ f
-    → r ≡ s → a ≡ b → Moves k f s old b → Moves k e r old a
+    → r ≡ s → a ≡ b → EventMoves k f s old b → EventMoves k e r old a
 same_moves k old e f r s a b event reply world m =
-    subst (λ z. Moves k z r old a) (sym event)
-    (subst (λ z. Moves k f z old a) (sym reply) (subst (λ z. Moves k f s old z) (sym world) m))
+    subst (λ z. EventMoves k z r old a) (sym event)
+    (subst (λ z. EventMoves k f z old a) (sym reply)
+    (subst (λ z. EventMoves k f s old z) (sym world) m))
 
--- no event yet
+-- a run without events
 pub begun_run : (sizes : Sizes) (w : World) → IsBegun sizes w → HasRun sizes [] [] w
 begun_run sizes w begun = record {
   last = begun.first;
@@ -55,7 +56,8 @@ begun_run sizes w begun = record {
 
 pub run_more : (sizes : Sizes) (events : List Event) (replies : List Reply) (old new : World)
     (e : Event) (r : Reply) (run : HasRun sizes events replies old)
-    → Moves run.last.machine e r old new → HasRun sizes (events ++ e ∷ []) (replies ++ r ∷ []) new
+    → EventMoves run.last.machine e r old new
+    → HasRun sizes (events ++ e ∷ []) (replies ++ r ∷ []) new
 run_more sizes events replies old new e r run moves = record {
   last = s.after;
   ran = record {
@@ -71,7 +73,7 @@ run_more sizes events replies old new e r run moves = record {
     chain = chain_more sizes run.ran.first run.last run.ran.steps s run.ran.chain begins
         (subst (λ z. IsStep z e r s.before s.after) run.sizes_are moves.step);
   };
-  at = record { disk = refl; goes = moves.goes };
+  at = record { disk = refl; matches = moves.matches };
   sizes_are = moves.sizes_stay ∙ run.sizes_are;
 }
   where

@@ -1,4 +1,4 @@
--- What a crash leaves where an event touches nothing.
+-- What a crash leaves if an event touches nothing.
 -- For `World::arm`, `World::reopen`.
 use Rattle.std.proofs.Common.{◌≡◌, ℕ, List, Option, inl, refl, sym, subst, arith}
 use Rattle.cm_disk.specs.declared.sim.SimDisk.{SimDisk}
@@ -8,7 +8,7 @@ use Rattle.cm_disk.specs.Sim.{sim_view, sim_contents, sim_unsynced}
 use Rattle.cm_guards.specs.Calls.{LeavesOnly}
 use Rattle.cm_guards.specs.Guards.{EachImage}
 
--- whatever is armed
+-- the images are the same, whatever is armed
 pub unmoved : (disk : SimDisk) (armed : Option ℕ) (P : List ℕ → Type 0)
     → EachImage (sim_contents disk) (sim_unsynced disk) P
     → LeavesOnly sim_view disk (record disk { armed = armed }) P

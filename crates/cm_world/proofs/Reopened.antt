@@ -6,10 +6,10 @@ use Rattle.std.specs.Prelude.{IfOk, ◌↔◌}
 use Rattle.std.specs.FinMap as map
 use Rattle.cm_pool.specs.Geometry.{Sizes}
 use Rattle.cm_disk.specs.declared.sim.SimDisk.{SimDisk}
-use Rattle.cm_disk.specs.Disk.{Unsynced, IsImage, IsBytes, IsSettled}
+use Rattle.cm_disk.specs.Disk.{Unsynced, IsImage, IsBytes, IsDurable}
 use Rattle.cm_disk.specs.Sim.{sim_view, sim_contents, sim_unsynced, IsFresh}
 use Rattle.cm_recover.specs.NewFile.{new_bytes, IsEmptyCache}
-use Rattle.cm_machine.specs.Machine.{Machine, empty_machine, commands_to}
+use Rattle.cm_commands.specs.Machine.{Machine, empty_machine, commands_to}
 use Rattle.cm_session.specs.Images.{StandsForSome}
 use Rattle.cm_session.proofs.{leaves_so}
 use Rattle.cm_world.specs.declared.event.Event.{Event}
@@ -17,7 +17,7 @@ use Rattle.cm_world.specs.declared.reply.Reply.{Reply}
 use Rattle.cm_world.specs.declared.world.World.{World}
 use Rattle.cm_world.specs.Steps.{BeginsWith, Does, OpenedAgain}
 use Rattle.cm_world.specs.Runs.{IsBegun}
-use Rattle.cm_world.specs.Moves.{state, Moves, MovesTo}
+use Rattle.cm_world.specs.Moves.{state, EventMoves, MovesTo}
 
 pub map_ok : {A E : Type 0} {P Q : A → Type 0} (r : Result A E) → ((x : A) → P x → Q x)
     → IfOk r P → IfOk r Q
@@ -32,7 +32,7 @@ pub opened_moves : (k : Machine) (e : Event) (r : Reply) (old new : World) (begu
     → Does old.session.committer.sizes e r begun (state old k) (state new next))
     → ((image : List ℕ) → IsImage (sim_contents begun) (sim_unsynced begun) image
     → StandsForSome old.session.committer.sizes k image)
-    → MovesTo old.session.committer.sizes k r begun (state old k) new → Moves k e r old new
+    → MovesTo old.session.committer.sizes k r begun (state old k) new → EventMoves k e r old new
 opened_moves k e r old new begun begins does images m = record {
   next = m.next;
   step = record {
@@ -44,7 +44,7 @@ opened_moves k e r old new begun begins does images m = record {
         (StandsForSome old.session.committer.sizes k) images m.moments;
     images = m.images;
   };
-  goes = m.goes;
+  matches = m.matches;
   sizes_stay = m.sizes_are;
 }
 
@@ -52,12 +52,12 @@ opened_moves k e r old new begun begins does images m = record {
 
 -- a disk that nothing has happened to holds one image
 pub one_image : ((contents image : List ℕ) (unsynced : Unsynced) → IsBytes contents
-    → IsSettled contents unsynced → (IsImage contents unsynced image ↔ (image ≡ contents)))
+    → IsDurable contents unsynced → (IsImage contents unsynced image ↔ (image ≡ contents)))
     → (disk : SimDisk) → IsFresh disk → (P : List ℕ → Type 0) → P (sim_contents disk)
     → (image : List ℕ) → IsImage (sim_contents disk) (sim_unsynced disk) image → P image
 one_image law disk fresh P p image is =
     subst P (sym ((law (sim_contents disk) image (sim_unsynced disk) disk.medium.sound.bytes
-    fresh.settled).0 is)) p
+    fresh.durable).0 is)) p
 
 -- ---- a new file
 
@@ -97,7 +97,7 @@ begun sizes r disk w made m = record {
       noticed = false;
     });
   };
-  at = record { disk = refl; goes = m.goes };
+  at = record { disk = refl; matches = m.matches };
   sizes_are = m.sizes_are;
 }
   where

@@ -1,4 +1,4 @@
--- What a reply tells of the calls of the disk.
+-- What a reply says about the calls of the disk.
 -- For `replies_tell_of_calls`.
 use Rattle.std.proofs.Common.{◌≡◌, ◌+◌, ℕ, List, Bool, true, false, Option, Some, None}
 use Rattle.std.proofs.Common.{Result, Ok, Err, refl, ap, ◌∙◌, arith}
@@ -7,7 +7,7 @@ use Rattle.std.specs.declared.alloc.AllocError.{AllocError}
 use Rattle.cm_pool.specs.Geometry.{Sizes}
 use Rattle.cm_disk.specs.declared.sim.SimDisk.{SimDisk}
 use Rattle.cm_disk.specs.Sim.{sim_calls, sim_armed, sim_refused, sim_called}
-use Rattle.cm_prepare.specs.declared.refusal.Refusal.{Refusal}
+use Rattle.cm_commands.specs.declared.refusal.Refusal.{Refusal}
 use Rattle.cm_commit.specs.declared.progress.Progress.{Progress}
 use Rattle.cm_commit.specs.declared.progress.Progress.TheVariants as progress
 use Rattle.cm_commit.specs.declared.progress.AdvanceFault.{AdvanceFault}
@@ -22,7 +22,7 @@ use Rattle.cm_world.specs.Steps.{State, Does, command_reply, seal_reply, advance
 use Rattle.cm_world.specs.Steps.{FindsSame}
 use Rattle.cm_world.specs.Laws.{keeps_open, calls_told}
 
--- ---- replies that tell of none
+-- ---- replies that report none
 
 command_told : (x : Result ℕ Refusal) → calls_told (command_reply x) ≡ 0
 command_told (Ok n) = refl

@@ -1,23 +1,23 @@
 -- A run of a world: events one after another, from an empty cache on.
 use Rattle.std.specs.Prelude.{◌≡◌, List, [], ◌∷◌, None, map}
 use Rattle.cm_pool.specs.Geometry.{Sizes}
-use Rattle.cm_disk.specs.Disk.{IsSettled}
+use Rattle.cm_disk.specs.Disk.{IsDurable}
 use Rattle.cm_disk.specs.Sim.{sim_contents, sim_unsynced, sim_armed}
 use Rattle.cm_guards.specs.Guards.{EachImage}
-use Rattle.cm_machine.specs.Machine.{empty_machine}
+use Rattle.cm_commands.specs.Machine.{empty_machine}
 use Rattle.cm_recover.specs.NewFile.{new_bytes}
 use Rattle.cm_session.specs.Images.{StandsForSome}
-use Rattle.cm_session.specs.Moves.{GoesWith}
+use Rattle.cm_session.specs.Moves.{SessionMatches}
 use Rattle.cm_world.specs.declared.event.Event.{Event}
 use Rattle.cm_world.specs.declared.reply.Reply.{Reply}
 use Rattle.cm_world.specs.declared.world.World.{World}
 use Rattle.cm_world.specs.Steps.{State, IsStep}
 
--- a disk that holds a new file, all of it stored, which stands for the empty cache; nothing was
+-- a disk that holds a new file, all of it durable, which stands for the empty cache; nothing was
 -- accepted yet, and nothing is armed
-pub record IsNew (sizes : Sizes) (s : State) : Type 0 where
+pub record IsNewWorld (sizes : Sizes) (s : State) : Type 0 where
   pub contents : sim_contents s.disk ≡ new_bytes sizes
-  pub stored : IsSettled (sim_contents s.disk) (sim_unsynced s.disk)
+  pub stored : IsDurable (sim_contents s.disk) (sim_unsynced s.disk)
   pub images : EachImage (sim_contents s.disk) (sim_unsynced s.disk) (StandsForSome sizes s.machine)
   pub disarmed : sim_armed s.disk ≡ None
   pub machine : s.machine ≡ empty_machine
@@ -40,22 +40,22 @@ Chain sizes first (s ∷ steps) last =
 pub record Ran (sizes : Sizes) (events : List Event) (replies : List Reply) (last : State)
     : Type 0 where
   pub first : State
-  pub new : IsNew sizes first
+  pub new : IsNewWorld sizes first
   pub steps : List Step
   pub events_are : map (λ (s : Step). s.event) steps ≡ events
   pub replies_are : map (λ (s : Step). s.reply) steps ≡ replies
   pub chain : Chain sizes first steps last
 
--- the world goes with the machine, and has its disk
-pub record IsAt (s : State) (w : World) : Type 0 where
+-- the world matches the machine, and has its disk
+pub record WorldMatches (s : State) (w : World) : Type 0 where
   pub disk : w.session.committer.disk ≡ s.disk
-  pub goes : GoesWith s.machine w.session
+  pub matches : SessionMatches s.machine w.session
 
 -- the world of a new file
 pub record IsBegun (sizes : Sizes) (w : World) : Type 0 where
   pub first : State
-  pub new : IsNew sizes first
-  pub at : IsAt first w
+  pub new : IsNewWorld sizes first
+  pub at : WorldMatches first w
   pub sizes_are : w.session.committer.sizes ≡ sizes
 
 -- The world is one in which the events had these replies.
@@ -63,5 +63,5 @@ pub record HasRun (sizes : Sizes) (events : List Event) (replies : List Reply) (
     : Type 0 where
   pub last : State
   pub ran : Ran sizes events replies last
-  pub at : IsAt last w
+  pub at : WorldMatches last w
   pub sizes_are : w.session.committer.sizes ≡ sizes

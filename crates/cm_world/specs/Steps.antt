@@ -1,5 +1,5 @@
--- What one event does to a world: what is replied, what the machine makes of it, and what a crash
--- at any moment of it leaves.
+-- What one event does to a world: what the reply is, what the machine does, and what a crash at any
+-- moment of it leaves.
 use Rattle.std.specs.Prelude.{◌≡◌, ℕ, Bool, true, false, List, Option, Some, None, Result, Ok}
 use Rattle.std.specs.Prelude.{Err, IsOk}
 use Rattle.std.specs.declared.alloc.AllocError.{AllocError}
@@ -9,13 +9,13 @@ use Rattle.cm_class.specs.declared.class_file.ClassFile.{ClassFile}
 use Rattle.cm_pool.specs.Geometry.{Sizes}
 use Rattle.cm_disk.specs.declared.sim.SimDisk.{SimDisk}
 use Rattle.cm_disk.specs.Chosen.{IsChosen}
-use Rattle.cm_disk.specs.Disk.{IsSettled}
+use Rattle.cm_disk.specs.Disk.{IsDurable}
 use Rattle.cm_disk.specs.Sim.{sim_view, sim_contents, sim_unsynced, sim_failures}
 use Rattle.cm_disk.specs.Sim.{sim_armed, sim_called, IsFresh}
 use Rattle.cm_guards.specs.Calls.{LeavesOnly}
 use Rattle.cm_guards.specs.Guards.{EachImage}
-use Rattle.cm_prepare.specs.declared.refusal.Refusal.{Refusal}
-use Rattle.cm_prepare.specs.Commands.{change_asked}
+use Rattle.cm_commands.specs.declared.refusal.Refusal.{Refusal}
+use Rattle.cm_commands.specs.Commands.{change_asked}
 use Rattle.cm_state.specs.Step.{Change}
 use Rattle.cm_commit.specs.declared.progress.Progress.{Progress}
 use Rattle.cm_commit.specs.declared.progress.Progress.TheVariants as progress
@@ -23,8 +23,8 @@ use Rattle.cm_commit.specs.declared.progress.AdvanceFault.{AdvanceFault}
 use Rattle.cm_commit.specs.declared.progress.AdvanceFault.TheVariants as fault
 use Rattle.cm_commit.specs.declared.progress.NotIdle.{NotIdle}
 use Rattle.cm_commit.specs.Advances.{CallsDevice, EndsBehind, HasRisen}
-use Rattle.cm_machine.specs.Machine.{Machine, Asks}
-use Rattle.cm_machine.specs.Laws.{Finds}
+use Rattle.cm_commands.specs.Machine.{Machine, Asks}
+use Rattle.cm_handover.specs.Laws.{Finds}
 use Rattle.cm_session.specs.declared.session.Sealed.{Sealed}
 use Rattle.cm_session.specs.Images.{StandsForSome}
 use Rattle.cm_session.specs.Moves.{Answers, Sealing, Advancing, IsNoCall, Learns, Reopening}
@@ -33,7 +33,7 @@ use Rattle.cm_world.specs.declared.event.Event.TheVariants as event
 use Rattle.cm_world.specs.declared.reply.Reply.{Reply}
 use Rattle.cm_world.specs.declared.reply.Reply.TheVariants as reply
 
--- a disk, and what the machine is at
+-- a disk, and the machine's state
 pub record State : Type 0 where
   pub disk : SimDisk
   pub machine : Machine
@@ -64,7 +64,7 @@ trim_reply (Err e) = reply.NotIdle
 
 -- ---- events
 
--- a command is answered as the machine answers the change of classes that it asks for
+-- the reply to a command is the machine's for the change of classes that the command requests
 pub record Commanded (sizes : Sizes) (asked : Change (List ℕ)) (r : Reply) (before after : State)
     : Type 0 where
   pub result : Result ℕ Refusal
@@ -80,9 +80,9 @@ pub record HandedOut (r : Reply) (before after : State) : Type 0 where
   pub seals : Sealing before.machine result after.machine
   pub disk_stays : after.disk ≡ before.disk
 
--- The machine's step. It makes no device call where nothing is left or the device failed before,
--- else exactly one. That fails exactly where a fault was armed for it or an allocation failed in
--- it, and nothing is armed any more then.
+-- The machine's step. It makes no device call if nothing is left or the device failed before, and
+-- otherwise exactly one. That one fails exactly if a fault was armed for it or an allocation failed
+-- in it, and nothing is armed any more after it.
 pub record Advanced (sizes : Sizes) (r : Reply) (before after : State) : Type 0 where
   pub result : Result Progress AdvanceFault
   pub reply_is : r ≡ advance_reply result
@@ -92,7 +92,7 @@ pub record Advanced (sizes : Sizes) (r : Reply) (before after : State) : Type 0 
   pub cause : HasRisen (sim_failures before.disk) (sim_failures after.disk) result
   pub trimmed : EndsBehind sizes (sim_contents after.disk) (sim_unsynced after.disk) result
 
--- Whether the file is to be cut is told; it isn't once the device failed.
+-- The reply says whether the file is to be truncated; it isn't once the device failed.
 pub record TrimAsked (r : Reply) (before after : State) : Type 0 where
   pub result : Result Bool NotIdle
   pub reply_is : r ≡ trim_reply result
@@ -124,23 +124,23 @@ pub record Armed (stores : ℕ) (r : Reply) (before after : State) : Type 0 wher
   pub machine_stays : after.machine ≡ before.machine
   pub disk_is : after.disk ≡ record before.disk { armed = Some stores }
 
--- the file is opened that the disk then holds; all of it is stored, and nothing is armed
+-- the file that the disk then holds is opened; all of it is durable, and nothing is armed
 pub record OpenedAgain (sizes : Sizes) (r : Reply) (opened : SimDisk) (before after : State)
     : Type 0 where
   pub reopens : Reopening sizes before.machine (sim_contents opened) after.machine
   pub reply_is : r ≡ reply.Opened reopens.number
   pub contents_stay : sim_contents after.disk ≡ sim_contents opened
-  pub stored : IsSettled (sim_contents after.disk) (sim_unsynced after.disk)
+  pub stored : IsDurable (sim_contents after.disk) (sim_unsynced after.disk)
   pub disarmed : sim_armed after.disk ≡ None
 
--- the disk that the event's device calls begin with: a crash leaves another than there was, which
--- holds the chosen image
-pub record IsLeft (length : ℕ) (fill : List ℕ) (disk left : SimDisk) : Type 0 where
+-- the disk that the event's device calls begin with: after a crash it is another one, which holds
+-- the chosen image
+pub record CrashLeaves (length : ℕ) (fill : List ℕ) (disk left : SimDisk) : Type 0 where
   pub chosen : IsChosen (sim_contents disk) (sim_unsynced disk) length fill (sim_contents left)
   pub fresh : IsFresh left
 
 abbrev pub BeginsWith : Event → SimDisk → SimDisk → Type 0
-BeginsWith (event.Crash choice) disk begun = IsLeft choice.len choice.fill.items disk begun
+BeginsWith (event.Crash choice) disk begun = CrashLeaves choice.len choice.fill.items disk begun
 BeginsWith event.Reopen disk begun = begun ≡ record disk { armed = None }
 BeginsWith other disk begun = begun ≡ disk
 
@@ -159,7 +159,8 @@ Does sizes (event.Crash choice) r begun before after = OpenedAgain sizes r begun
 
 -- One event. At each moment of it, a crash leaves contents that stand for the loaders and classes
 -- after some number of the accepted commands: no fewer than were acknowledged before it, and no
--- more than were handed out. After it, so do they for what is acknowledged and handed out by then.
+-- more than were handed out. After it the same holds for what is acknowledged and handed out by
+-- then.
 pub record IsStep (sizes : Sizes) (e : Event) (r : Reply) (before after : State) : Type 0 where
   pub begun : SimDisk
   pub begins : BeginsWith e before.disk begun

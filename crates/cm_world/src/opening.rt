@@ -3,20 +3,20 @@
 ghost use Rattle.std.specs.Prelude.{◌≡◌, IfOk, IfErr};
 ghost use Rattle.cm_pool.specs.Geometry.{Sizes};
 ghost use Rattle.cm_disk.specs.Sim.{sim_contents, sim_unsynced};
-ghost use Rattle.cm_disk.specs.Disk.{IsSettled};
+ghost use Rattle.cm_disk.specs.Disk.{IsDurable};
 ghost use Rattle.cm_layout.specs.Laws.{IsNewest};
-ghost use Rattle.cm_machine.specs.Machine.{Machine};
+ghost use Rattle.cm_commands.specs.Machine.{Machine};
 ghost use Rattle.cm_recover.specs.NewFile.{new_bytes, IsEmptyCache};
 ghost use Rattle.cm_session.specs.Images.{StandsForSome};
-ghost use Rattle.cm_session.specs.Moves.{GoesWith, IsOutside};
-ghost use Rattle.cm_world.specs.Moves.{MovesTo, Moves, state};
-ghost use Rattle.cm_world.specs.Runs.{IsAt, IsNew, IsBegun};
+ghost use Rattle.cm_session.specs.Moves.{SessionMatches, IsOutside};
+ghost use Rattle.cm_world.specs.Moves.{MovesTo, EventMoves, state};
+ghost use Rattle.cm_world.specs.Runs.{WorldMatches, IsNewWorld, IsBegun};
 ghost use Rattle.cm_world.specs.Steps.{State};
 ghost use Rattle.cm_world.specs.declared.event.Event.TheVariants as event;
 
 use crate::reply::Reply;
 use crate::world::World;
-use cm_disk::{Choice, SimDisk, settled_has_one_image};
+use cm_disk::{Choice, SimDisk, durable_has_one_image};
 use cm_pool::Geometry;
 use cm_recover::{
     FormatFault, NotOpened, OpenFault, format, new_file_is_empty, newest_is_not_older,
@@ -34,7 +34,7 @@ fn open_file(alloc: Global, disk: SimDisk) -> Result<(World, Reply), OpenFault>
     newest_is_not_older();
     match cm_session::open(alloc, disk) {
         Ok(mut session) => {
-            session.disarm(); // as its calls have: so the proof knows it
+            session.disarm(); // its calls did so already: this is for the proof
             session.images();
             let reply = Reply::Opened(session.number());
             Ok((World { alloc, session }, reply))
@@ -63,7 +63,7 @@ fn make_disk(alloc: Global, geometry: Geometry) -> Result<SimDisk, OpenFault>
 impl World {
     /// The world of a new file of these sizes, in which nothing was accepted yet.
     ///
-    /// It is an `Err` only where the device or an allocation failed.
+    /// It is an `Err` only if the device or an allocation failed.
     pub fn new(alloc: Global, geometry: Geometry) -> Result<World, OpenFault>
         ensures begun { IfOk result (IsBegun geometry) }
         ensures fault { IfErr result IsOutside }
@@ -77,9 +77,9 @@ impl World {
 
     /// Opens the file again, as it is.
     pub(crate) fn reopen(self) -> Result<(World, Reply), OpenFault>
-        ensures moved { (k : Machine) → GoesWith k self.session
-            → IfOk result (λ p. Moves k event.Reopen p.1 self p.0) }
-        ensures fault { (k : Machine) → GoesWith k self.session → IfErr result IsOutside }
+        ensures moved { (k : Machine) → SessionMatches k self.session
+            → IfOk result (λ p. EventMoves k event.Reopen p.1 self p.0) }
+        ensures fault { (k : Machine) → SessionMatches k self.session → IfErr result IsOutside }
     {
         let World { alloc, session } = self;
         session.images();
@@ -91,14 +91,14 @@ impl World {
 
     /// Opens the file that a crash leaves.
     pub(crate) fn crash(self, choice: Choice) -> Result<(World, Reply), OpenFault>
-        ensures moved { (k : Machine) → GoesWith k self.session
-            → IfOk result (λ p. Moves k (event.Crash choice) p.1 self p.0) }
-        ensures fault { (k : Machine) → GoesWith k self.session → IfErr result IsOutside }
+        ensures moved { (k : Machine) → SessionMatches k self.session
+            → IfOk result (λ p. EventMoves k (event.Crash choice) p.1 self p.0) }
+        ensures fault { (k : Machine) → SessionMatches k self.session → IfErr result IsOutside }
     {
         let World { alloc, session } = self;
         session.images();
         session.versions();
-        settled_has_one_image();
+        durable_has_one_image();
         let disk = session.into_disk().crash(alloc, &choice)?;
         open_file(alloc, disk)
     }

@@ -6,14 +6,14 @@ ghost use Rattle.std.specs.Option.{option_map};
 ghost use Rattle.cm_world.specs.Steps.{command_reply, seal_reply, advance_reply, trim_reply};
 ghost use Rattle.cm_world.specs.Steps.{FindsSame};
 
+use cm_commands::Refusal;
 use cm_commit::{AdvanceFault, NotIdle, Progress};
-use cm_prepare::Refusal;
 use cm_record::Record;
 use cm_session::Sealed;
 use std::alloc::{AllocError, Global};
 use std::sync::Arc;
 
-/// What an event came to.
+/// The result of an event.
 #[derive(Drop)]
 pub enum Reply {
     /// The command is accepted with this number.
@@ -29,13 +29,13 @@ pub enum Reply {
     Idle,
     /// A device call was made, and others are left.
     Working,
-    /// The last device call of a group was made: all commands up to this number are stored.
+    /// The last device call of a group was made: all commands up to this number are durable.
     Done(u64),
-    /// The last device call of a trim was made: the file has so many roots.
+    /// The last device call of a trim was made: the file has this many roots.
     Trimmed(u32),
-    /// The file will be cut, by the next two device calls.
+    /// The file will be truncated, by the next two device calls.
     TrimDue,
-    /// The file holds no root behind the last that committed rows use.
+    /// The file holds no root after the last that committed rows use.
     NothingToTrim,
     /// Something is under way, or the device failed earlier: nothing was done.
     NotIdle,
@@ -43,7 +43,7 @@ pub enum Reply {
     DeviceFailed,
     /// The device failed earlier: no call was made.
     Broken,
-    /// All commands up to this number are known to be stored.
+    /// All commands up to this number are known to be durable.
     Learnt(u64),
     /// The class's record, if the loader has that class.
     Found(Option<Arc<Record, Global>>),
@@ -63,7 +63,7 @@ pub(crate) fn command_reply(answer: Result<u64, Refusal>) -> Reply
     }
 }
 
-/// The reply where commands are to be handed out.
+/// The reply when commands are to be handed out.
 pub(crate) fn seal_reply(answer: Result<Option<Sealed>, AllocError>) -> Reply
     ensures { result ≡ seal_reply answer }
 {
@@ -74,7 +74,7 @@ pub(crate) fn seal_reply(answer: Result<Option<Sealed>, AllocError>) -> Reply
     }
 }
 
-/// The reply where the committer is advanced.
+/// The reply when the committer is advanced.
 pub(crate) fn advance_reply(answer: Result<Progress, AdvanceFault>) -> Reply
     ensures { result ≡ advance_reply answer }
 {
@@ -88,7 +88,7 @@ pub(crate) fn advance_reply(answer: Result<Progress, AdvanceFault>) -> Reply
     }
 }
 
-/// The reply where the file is to be cut.
+/// The reply when the file is to be truncated.
 pub(crate) fn trim_reply(answer: Result<bool, NotIdle>) -> Reply
     ensures { result ≡ trim_reply answer }
 {
@@ -99,7 +99,7 @@ pub(crate) fn trim_reply(answer: Result<bool, NotIdle>) -> Reply
     }
 }
 
-/// The reply to a look-up: the record once more, by the same words.
+/// The reply to a lookup: the record, shared again, with the same words.
 pub(crate) fn look_reply(found: Option<&Arc<Record, Global>>) -> Reply
     ensures { FindsSame (option_map (λ r. arc_value r.now) found.entry) result }
 {

@@ -1,20 +1,20 @@
 //! Events that keep the file open.
 
 ghost use Rattle.std.specs.Prelude.{◌≡◌};
-ghost use Rattle.cm_machine.specs.Machine.{Machine};
-ghost use Rattle.cm_session.specs.Moves.{GoesWith};
-ghost use Rattle.cm_world.specs.Moves.{Moves};
+ghost use Rattle.cm_commands.specs.Machine.{Machine};
+ghost use Rattle.cm_session.specs.Moves.{SessionMatches};
+ghost use Rattle.cm_world.specs.Moves.{EventMoves};
 ghost use Rattle.cm_world.specs.declared.event.Event.TheVariants as event;
 
 use crate::reply::{Reply, advance_reply, command_reply, look_reply, seal_reply, trim_reply};
 use crate::world::World;
-use cm_prepare::Command;
+use cm_commands::Command;
 
 impl World {
-    /// A command is asked for.
+    /// A command is requested.
     pub(crate) fn accept(&mut self, command: Command<'_>) -> Reply
-        ensures { (k : Machine) → GoesWith k self.old.session
-            → Moves k (event.Accept command.entry) result self.old self.new }
+        ensures { (k : Machine) → SessionMatches k self.old.session
+            → EventMoves k (event.Accept command.entry) result self.old self.new }
     {
         self.session.images();
         let answer = self.session.accept(command);
@@ -24,8 +24,8 @@ impl World {
 
     /// The oldest accepted commands are handed out.
     pub(crate) fn seal(&mut self) -> Reply
-        ensures { (k : Machine) → GoesWith k self.old.session
-            → Moves k event.Seal result self.old self.new }
+        ensures { (k : Machine) → SessionMatches k self.old.session
+            → EventMoves k event.Seal result self.old self.new }
     {
         self.session.images();
         let answer = self.session.seal();
@@ -35,18 +35,18 @@ impl World {
 
     /// The committer makes its next device call.
     pub(crate) fn advance(&mut self) -> Reply
-        ensures { (k : Machine) → GoesWith k self.old.session
-            → Moves k event.Advance result self.old self.new }
+        ensures { (k : Machine) → SessionMatches k self.old.session
+            → EventMoves k event.Advance result self.old self.new }
     {
         let answer = self.session.advance();
         self.session.images();
         advance_reply(answer)
     }
 
-    /// The file is to be cut.
+    /// The file is to be truncated.
     pub(crate) fn trim(&mut self) -> Reply
-        ensures { (k : Machine) → GoesWith k self.old.session
-            → Moves k event.Trim result self.old self.new }
+        ensures { (k : Machine) → SessionMatches k self.old.session
+            → EventMoves k event.Trim result self.old self.new }
     {
         self.session.images();
         let answer = self.session.trim();
@@ -56,8 +56,8 @@ impl World {
 
     /// The accepted cache learns what is acknowledged.
     pub(crate) fn learn(&mut self) -> Reply
-        ensures { (k : Machine) → GoesWith k self.old.session
-            → Moves k event.Learn result self.old self.new }
+        ensures { (k : Machine) → SessionMatches k self.old.session
+            → EventMoves k event.Learn result self.old self.new }
     {
         self.session.images();
         let number = self.session.learn();
@@ -67,8 +67,8 @@ impl World {
 
     /// A class is looked up.
     pub(crate) fn look(&mut self, loader: &[u8], class: &[u8]) -> Reply
-        ensures { (k : Machine) → GoesWith k self.old.session
-            → Moves k (event.Look loader.entry class.entry) result self.old self.new }
+        ensures { (k : Machine) → SessionMatches k self.old.session
+            → EventMoves k (event.Look loader.entry class.entry) result self.old self.new }
     {
         self.session.images();
         look_reply(self.session.find(loader, class))
@@ -76,8 +76,8 @@ impl World {
 
     /// The next device call is to fail.
     pub(crate) fn arm(&mut self, stores: usize) -> Reply
-        ensures { (k : Machine) → GoesWith k self.old.session
-            → Moves k (event.Fault stores) result self.old self.new }
+        ensures { (k : Machine) → SessionMatches k self.old.session
+            → EventMoves k (event.Fault stores) result self.old self.new }
     {
         self.session.images();
         self.session.arm(stores);

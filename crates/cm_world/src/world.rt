@@ -1,10 +1,10 @@
 //! A world, and the events that happen to it.
 
 ghost use Rattle.std.specs.Prelude.{◌≡◌, IfOk, IfErr, IsErr};
-ghost use Rattle.cm_machine.specs.Machine.{Machine};
-ghost use Rattle.cm_session.specs.Moves.{GoesWith, IsOutside};
+ghost use Rattle.cm_commands.specs.Machine.{Machine};
+ghost use Rattle.cm_session.specs.Moves.{SessionMatches, IsOutside};
 ghost use Rattle.cm_world.specs.Runs.{HasRun};
-ghost use Rattle.cm_world.specs.Moves.{Moves, OpensAgain};
+ghost use Rattle.cm_world.specs.Moves.{EventMoves, OpensAgain};
 
 use crate::event::Event;
 use crate::reply::Reply;
@@ -22,15 +22,15 @@ pub struct World {
 }
 
 impl World {
-    /// One event, and its reply. The machine that the world goes with makes a step over the world's
-    /// own disk, and the world that is handed back goes with the machine after it.
+    /// One event, and its reply. The machine that the world matches makes a step over the world's
+    /// own disk, and the world that is handed back matches the machine after it.
     ///
-    /// It is an `Err`, with no world, only where the event opens the file again and the device or
-    /// an allocation failed in that.
+    /// It is an `Err`, with no world, only if the event opens the file again and the device or an
+    /// allocation failed in that.
     pub fn step(mut self, event: Event<'_>) -> Result<(World, Reply), OpenFault>
-        ensures moved { (k : Machine) → GoesWith k self.session
-            → IfOk result (λ p. Moves k event.entry p.1 self p.0) }
-        ensures fault { (k : Machine) → GoesWith k self.session → IfErr result IsOutside }
+        ensures moved { (k : Machine) → SessionMatches k self.session
+            → IfOk result (λ p. EventMoves k event.entry p.1 self p.0) }
+        ensures fault { (k : Machine) → SessionMatches k self.session → IfErr result IsOutside }
         ensures goes_on { IsErr result → OpensAgain event.entry }
     {
         let reply = match event {
@@ -47,8 +47,8 @@ impl World {
         Ok((self, reply))
     }
 
-    /// Runs events one after another over a new file of these sizes: one reply for each. It ends
-    /// early only where the device or an allocation failed while a file was made or opened.
+    /// Runs events one after another over a new file of these sizes, with one reply for each. It
+    /// ends early only if the device or an allocation failed while a file was made or opened.
     pub fn run(
         alloc: Global,
         geometry: Geometry,

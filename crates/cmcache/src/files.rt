@@ -1,4 +1,4 @@
-//! Caches that lie in files.
+//! Caches in files.
 
 use crate::scripts::run_script;
 use crate::status::{say, say_not_made};
@@ -11,7 +11,7 @@ use std::io;
 use std::sync::Wait;
 use std::thread::Threads;
 
-/// Makes an empty cache in a new file, and gives the status.
+/// Makes an empty cache in a new file, and returns the status.
 pub fn format_file(
     rt: &(impl Print + Eprint + Files<File = File> + AllocGlobal),
     path: &str,
@@ -35,7 +35,7 @@ pub fn format_file(
     }
 }
 
-/// Removes a new file that doesn't hold a cache: it would stand in the way of the next try.
+/// Removes a new file that doesn't hold a cache: it would prevent the next attempt.
 fn give_up(rt: &(impl Eprint + Files<File = File>), path: &str, disk: FileDisk) {
     tell_failure(rt, path, &disk);
     drop(disk);
@@ -44,16 +44,16 @@ fn give_up(rt: &(impl Eprint + Files<File = File>), path: &str, disk: FileDisk) 
     }
 }
 
-/// The disk of a cache's file, with as much of it in memory as is read: what lies after the last
-/// root that its sizes allow isn't, however long it is.
+/// The disk of a cache's file, with as much of it in memory as is read: nothing after the last root
+/// that its sizes allow, however long the file is.
 pub fn disk_of(opened: Result<OpenedFile, OpenError>) -> Result<FileDisk, OpenError> {
     let file = opened?;
     let reach = bytes_read(file.beginning());
     FileDisk::of_file(file, reach)
 }
 
-/// Runs the script on standard input on the cache in a file, with this many workers, and gives the
-/// status.
+/// Runs the script on standard input on the cache in a file, with this many workers, and returns
+/// the status.
 pub fn apply_file<R>(rt: &R, path: &str, workers: usize) -> Status
 where
     R: Input + Print + Eprint + Files<File = File> + AllocGlobal,
@@ -80,7 +80,7 @@ pub fn say_not_opened(rt: &(impl Print + Eprint), path: &str, error: OpenError) 
     say(rt, OpenFault::Device, Status::Failed)
 }
 
-/// Tells why a file's first call that failed did so, if one has.
+/// If a call on a file has failed, says why the first of them did.
 pub fn tell_failure(rt: &impl Eprint, path: &str, disk: &FileDisk) {
     if let Some(cause) = disk.cause() {
         tell_cause(rt, path, cause);

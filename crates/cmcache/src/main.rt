@@ -25,7 +25,7 @@ fn main(rt: HostRuntime) -> ExitCode {
     ExitCode::from(run(&rt).number())
 }
 
-/// Does what the command line asks for, and gives the status.
+/// Does what the command line requests, and returns the status.
 fn run<R>(rt: &R) -> Status
 where
     R: Env + Input + Print + Eprint + Files<File = File> + AllocGlobal,

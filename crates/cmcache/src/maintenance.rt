@@ -8,7 +8,7 @@ use cm_recover::is_older;
 use std::fs::{File, Files};
 use std::io;
 
-/// Checks the cache in a file for damage, and gives the status. The file is only read.
+/// Checks the cache in a file for damage, and returns the status. The file is only read.
 pub fn check_file(
     rt: &(impl Print + Eprint + Files<File = File> + AllocGlobal),
     path: &str,
@@ -22,8 +22,8 @@ pub fn check_file(
     }
 }
 
-/// The disk of a file that is listed. No right to write to it is needed, unless it is of version 1:
-/// then opening its cache upgrades it.
+/// The disk of a file that is listed. No permission to write to it is needed, unless it is of
+/// version 1: then opening its cache upgrades it.
 fn disk_to_list(
     rt: &(impl Files<File = File> + AllocGlobal),
     path: &str,
@@ -35,8 +35,8 @@ fn disk_to_list(
     }
 }
 
-/// Lists what the cache in a file holds, and gives the status. The file is opened as for a script,
-/// with a sync, and nothing is written, unless it is of an older version.
+/// Lists what the cache in a file holds, and returns the status. The file is opened as for a
+/// script, with a sync, and nothing is written, unless it is of version 1.
 pub fn list_file(
     rt: &(impl Print + Eprint + Files<File = File> + AllocGlobal),
     path: &str,
@@ -50,7 +50,7 @@ pub fn list_file(
     }
 }
 
-/// Truncates the file of a cache after the last root that is in use, and gives the status.
+/// Truncates the file of a cache after the last root that is in use, and returns the status.
 pub fn trim_file(
     rt: &(impl Print + Eprint + Files<File = File> + AllocGlobal),
     path: &str,
@@ -64,7 +64,7 @@ pub fn trim_file(
     }
 }
 
-/// Tells why the file's device failed, if it did, and why not all is written.
+/// Says why the file's device failed, if it did, and why not everything is written.
 fn status_of_told(
     rt: &impl Eprint,
     path: &str,

@@ -1,4 +1,4 @@
-//! Caches that lie in memory for one run.
+//! Caches in memory for one run.
 
 use crate::scripts::run_script;
 use crate::status::say_not_made;
@@ -9,8 +9,8 @@ use cm_recover::format;
 use std::sync::Wait;
 use std::thread::Threads;
 
-/// Runs the script on standard input on a fresh cache in memory of the usual sizes, with this many
-/// workers, and gives the status.
+/// Runs the script on standard input on a fresh cache in memory of the default sizes, with this
+/// many workers, and returns the status.
 pub fn apply_in_memory<R>(rt: &R, workers: usize) -> Status
 where
     R: Input + Print + Eprint + AllocGlobal + Threads + Wait + Copy + Send + Sync + 'static,

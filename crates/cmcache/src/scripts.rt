@@ -8,14 +8,14 @@ use std::io::{self, BufReader, BufWriter};
 use std::sync::Wait;
 use std::thread::Threads;
 
-/// How much of a script is read at once: by one thread, and ahead for several.
+/// How many bytes of a script are read at once: by one thread, and ahead for several.
 const READ_AT_ONCE: usize = 8_192;
 
 const READ_AHEAD: usize = 262_144;
 
-/// Runs the script on standard input on a disk's cache, with its replies on standard output and so
-/// many workers, and gives the status and the disk. There is no disk if the threads can't be
-/// had.
+/// Runs the script on standard input on a disk's cache, with its replies on standard output and
+/// `workers` workers, and returns the status and the disk. There is no disk if the threads can't be
+/// started.
 pub fn run_script<R, D>(rt: &R, disk: D, workers: usize) -> (Status, Option<D>)
 where
     R: Input + Print + Eprint + AllocGlobal + Threads + Wait + Copy + Send + Sync + 'static,
@@ -42,7 +42,7 @@ where
     }
 }
 
-/// Says why a script wasn't run to its end, and gives the status.
+/// Says why a script wasn't run to its end, and returns the status.
 fn status_of_run(
     rt: &(impl Print + Eprint + AllocGlobal),
     run: Result<Outcome, ApplyFault>,

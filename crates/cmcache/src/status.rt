@@ -1,7 +1,7 @@
-//! The statuses that the program ends with, and what it says of its own.
+//! The statuses that the program ends with, and its own messages.
 
 ghost use Rattle.std.specs.Prelude.{◌≡◌, true, false};
-ghost use Rattle.cm_arguments.specs.Action.{IsHelp, IsWrong};
+ghost use Rattle.cm_arguments.specs.Action.{IsHelp, IsUsageError};
 
 use cm_arguments::UsageFault;
 use cm_maintenance::{Status, tell_fault};
@@ -25,10 +25,10 @@ pub fn status_of(outcome: Outcome) -> Status
     }
 }
 
-/// The status of words that ask for nothing that can be done.
+/// The status of words that request nothing that can be done.
 pub fn status_of_usage(fault: &UsageFault) -> Status
     ensures help { IsHelp fault.now → result ≡ Status.Done }
-    ensures wrong { IsWrong fault.now → result ≡ Status.WrongWords }
+    ensures wrong { IsUsageError fault.now → result ≡ Status.WrongWords }
     ensures memory { fault.now ≡ UsageFault.NoMemory → result ≡ Status.Failed }
 {
     match fault {
@@ -38,8 +38,8 @@ pub fn status_of_usage(fault: &UsageFault) -> Status
     }
 }
 
-/// Writes a text of the program's own to standard output, and gives the status: this one, or that
-/// of a failure if the output fails.
+/// Writes one of the program's own messages to standard output, and returns the status: this one,
+/// or that of a failure if the output fails.
 pub fn say(rt: &(impl Print + Eprint), text: impl Display + Drop, status: Status) -> Status {
     match println!(rt; "{text}") {
         Ok(()) => status,
@@ -64,7 +64,7 @@ pub fn say_fault(rt: &(impl Print + Eprint + AllocGlobal), fault: OpenFault) -> 
     }
 }
 
-/// Tells on standard error what failed, and gives the status.
+/// Writes to standard error what failed, and returns the status.
 pub fn fail(rt: &impl Eprint, why: impl Display + Drop) -> Status {
     let _ = eprintln!(rt; "cmcache: {why}");
     Status::Failed

@@ -1,4 +1,4 @@
-//! The words of the command line, and what is said if they ask for nothing that can be done.
+//! The words of the command line, and the message if they request nothing that can be done.
 
 use crate::status::{fail, status_of_usage};
 use cm_arguments::{UsageFault, wrong_words};
@@ -19,8 +19,8 @@ pub fn read_words(rt: &(impl Env + AllocGlobal)) -> Result<Vec<String>, UsageFau
     }
 }
 
-/// Prints the help, or what is wrong with the words, and gives the status. Of wrong words it is the
-/// same whether or not their text reaches anyone.
+/// Prints the help, or what is wrong with the words, and returns the status. For wrong words the
+/// status is the same whether or not this text could be written.
 pub fn tell_fault(rt: &(impl Print + Eprint), fault: &UsageFault) -> Status {
     match fault {
         UsageFault::Help(text) => {

@@ -5,7 +5,7 @@ use cm_class::{Class, Member as ClassMember};
 use cm_record::{Member, Record};
 use std::alloc::{AllocError, Global};
 
-/// A call on a record that makes no class.
+/// A call on a record that doesn't build a class.
 #[derive(Clone, Copy, Debug, PartialEq, Eq)]
 pub enum Lookup {
     /// The name of the class, copied.
@@ -46,7 +46,7 @@ pub struct Subject {
     wanted: Wanted,
 }
 
-/// What became of calls.
+/// The results of calls.
 #[derive(Clone, Copy, Debug, PartialEq, Eq)]
 pub struct Tally {
     pub calls: usize,
@@ -61,8 +61,8 @@ impl Tally {
     }
 }
 
-/// Of how many members of a class each is looked for, at most. A look-up goes over the members
-/// before it, so that of 65,535 fields would take minutes.
+/// How many members of a class are looked for at most. A look-up reads the members before the one
+/// it looks for, so looking for each of 65,535 fields would take minutes.
 const MOST_MEMBERS: usize = 1_000;
 
 /// The signatures of members.
@@ -144,7 +144,7 @@ fn look_for(record: &Record, signatures: &[Signature], is_method: bool, tally: &
 }
 
 impl Lookup {
-    /// All of them, in the order in which they are run.
+    /// All look-ups, in the order in which they are run.
     pub const ALL: [Lookup; 6] = [
         Lookup::ClassName,
         Lookup::SameName,
@@ -166,7 +166,7 @@ impl Lookup {
         }
     }
 
-    /// Makes its calls on one record; `next` is the record behind it.
+    /// Makes its calls on one record; `next` is the record after it.
     fn call(
         self,
         alloc: Global,

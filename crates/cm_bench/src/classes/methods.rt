@@ -1,4 +1,4 @@
-//! What the records of classes say of their methods.
+//! What the records of classes say about their methods.
 
 use crate::classes::samples::record_of;
 use anyhow::Result;
@@ -6,7 +6,7 @@ use cm_class::Class;
 use cm_record::{Code, Record};
 use std::str;
 
-/// What the record says of a method's code: max stack, max locals and the code's length.
+/// What the record says about a method's code: max stack, max locals and the code's length.
 fn code_of(record: &Record, name: &[u8], descriptor: &[u8]) -> Option<Code> {
     let member = record.method(name, descriptor)?;
     record.code(&member)
@@ -37,7 +37,7 @@ fn print_code(rt: &(impl Print + AllocGlobal), code: Option<Code>) -> Result<()>
     Ok(())
 }
 
-/// Prints a line for each method of a class, whose record and name these are.
+/// Prints a line for each method of a class, given its record and its name.
 fn print_methods_in(
     rt: &(impl Print + AllocGlobal),
     record: &Record,

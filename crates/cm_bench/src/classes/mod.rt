@@ -1,5 +1,5 @@
-//! Class files: reading, judging and recording them, looking into records, and the pools that
-//! blocks for records are taken of.
+//! Class files: reading, judging and recording them, looking into records, and the pools from which
+//! blocks for records are taken.
 
 mod lookups;
 mod methods;
@@ -57,8 +57,8 @@ fn bench_lookups(
     Ok(())
 }
 
-/// Takes blocks of crowded pools. Only where times are asked for: counts say nothing here, and the
-/// pools are large.
+/// Takes blocks of crowded pools. This is done only if times are requested: counts say nothing
+/// here, and the pools are large.
 fn bench_pools(rt: &(impl Clock + Print + AllocGlobal), passes: Option<u32>) -> Result<()> {
     for crowd in Crowd::ALL {
         report_pools(rt, crowd, passes)?;

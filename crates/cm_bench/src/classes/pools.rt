@@ -1,4 +1,4 @@
-//! What it costs to take a block of a crowded pool and to give it back, by rows of bits and by a
+//! The cost of taking a block of a crowded pool and giving it back, with rows of bits and with a
 //! sorted list.
 ghost use Rattle.std.specs.Prelude.{◌≡◌};
 
@@ -26,7 +26,7 @@ impl Body {
     }
 }
 
-/// What a pool of 256 roots of order 12 is like, and which block is taken.
+/// The state of a pool of 256 roots of order 12, and which block is taken.
 #[derive(Clone, Copy)]
 pub enum Crowd {
     /// All roots but the last are full, and a block of order 0 is taken.
@@ -41,8 +41,8 @@ impl Crowd {
     /// Its name in the output.
     pub fn name(self) -> &'static str {
         match self {
-            Crowd::FullRoots => "alloc(0) behind 255 full roots",
-            Crowd::SingleBlocks => "alloc(1) behind 16384 free blocks of order 0",
+            Crowd::FullRoots => "alloc(0) after 255 full roots",
+            Crowd::SingleBlocks => "alloc(1) after 16384 free blocks of order 0",
         }
     }
 
@@ -76,7 +76,7 @@ fn full_roots(alloc: Global) -> Result<Vec<Chunk>, AllocError> {
     Ok(used)
 }
 
-/// Every other block of order 0 of a root, the last first.
+/// Every other block of order 0 of a root, from the last to the first.
 fn push_single_blocks(used: &mut Vec<Chunk>, root: u32) -> Result<(), AllocError> {
     for pair in (0..2048).rev() {
         let at = 256 * pair;
@@ -85,7 +85,7 @@ fn push_single_blocks(used: &mut Vec<Chunk>, root: u32) -> Result<(), AllocError
     Ok(())
 }
 
-/// Every other block of order 0 of the first eight roots, the last first.
+/// Every other block of order 0 of the first eight roots, from the last to the first.
 fn single_blocks(alloc: Global) -> Result<Vec<Chunk>, AllocError> {
     let mut used = Vec::new(alloc);
     for root in (0..8).rev() {
@@ -105,7 +105,7 @@ pub struct Pools {
     order: u32,
 }
 
-/// Takes a block and gives it back: whether there was one.
+/// Takes a block and gives it back; returns whether there was one.
 fn take_and_give(pool: &mut Pool, order: u32) -> bool
     ensures { pool.new ≡ pool.old }
 {
@@ -119,7 +119,7 @@ fn take_and_give(pool: &mut Pool, order: u32) -> bool
     true
 }
 
-/// The same, by a sorted list.
+/// The same, with a sorted list.
 fn take_and_give_listed(pool: &mut ListPool, order: u32) -> bool
     ensures { pool.new ≡ pool.old }
 {
@@ -134,7 +134,7 @@ fn take_and_give_listed(pool: &mut ListPool, order: u32) -> bool
 }
 
 impl Pools {
-    /// Both bodies in the same crowd. `None` where these sizes were no geometry.
+    /// Both bodies, equally crowded. `None` if these sizes were no geometry.
     pub fn new(alloc: Global, crowd: Crowd) -> Result<Option<Pools>, AllocError> {
         let Some(geometry) = Geometry::new(12, 256, 256) else {
             return Ok(None);

@@ -1,4 +1,4 @@
-//! What is printed of a step.
+//! What is printed about a step.
 
 use crate::classes::lookups::{Lookup, Subject};
 use crate::classes::pools::{Body, Crowd, Pools};
@@ -17,7 +17,7 @@ fn total_len(classes: &[&[u8]]) -> usize {
     total
 }
 
-/// The least time that the step takes over all of its samples, in so many passes.
+/// The least time that the step takes over all of its samples, in `passes` passes.
 fn best_pass(
     rt: &(impl Clock + AllocGlobal),
     step: Step,
@@ -34,12 +34,12 @@ fn best_pass(
     Ok(best)
 }
 
-/// Tenths of a million bytes a second.
+/// Tenths of a million bytes per second.
 fn rate(bytes: usize, time: Duration) -> u128 {
     bytes as u128 * 10_000 / time.as_nanos().max(1)
 }
 
-/// Runs a step once, and then in so many timed passes, and prints its line.
+/// Runs a step once, and then in timed passes, and prints its line.
 pub fn report(
     rt: &(impl Clock + Print + AllocGlobal),
     step: Step,
@@ -61,7 +61,7 @@ pub fn report(
     Ok(())
 }
 
-/// The least time that the calls of a look-up take, in so many passes.
+/// The least time that the calls of a look-up take, in `passes` passes.
 fn best_of_lookup(
     rt: &(impl Clock + AllocGlobal),
     lookup: Lookup,
@@ -78,7 +78,7 @@ fn best_of_lookup(
     Ok(best)
 }
 
-/// Makes the calls of a look-up once, and then in so many timed passes, and prints its line.
+/// Makes the calls of a look-up once, and then in timed passes, and prints its line.
 pub fn report_lookup(
     rt: &(impl Clock + Print + AllocGlobal),
     lookup: Lookup,
@@ -98,12 +98,12 @@ pub fn report_lookup(
     Ok(())
 }
 
-/// The least time that a body of a pool takes, in so many passes.
+/// The least time that a body of a pool takes, in `passes` passes.
 fn best_of_pools(rt: &impl Clock, pools: &mut Pools, body: Body, passes: u32) -> Result<Duration> {
     let mut best = Duration::MAX;
     for _ in 0..passes {
         let start = Instant::now(rt)?;
-        let _tally = pools.run(body); // told once, by another run
+        let _tally = pools.run(body); // reported once, by another run
         best = best.min(start.elapsed(rt)?);
     }
     Ok(best)

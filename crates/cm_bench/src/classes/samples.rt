@@ -27,7 +27,7 @@ fn words_of(alloc: Global, record: &Record) -> Result<Vec<u64>, AllocError> {
     Ok(words)
 }
 
-/// The record of a class file; none where it is refused.
+/// The record of a class file; `None` if it is rejected.
 pub fn record_of(alloc: Global, class: &[u8]) -> Result<Option<Record>, AllocError> {
     let class = match read_class(alloc, class) {
         Ok(class) => class,

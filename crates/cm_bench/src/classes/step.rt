@@ -9,13 +9,13 @@ use std::alloc::{AllocError, Global};
 /// A call that is run over samples.
 #[derive(Clone, Copy, Debug, PartialEq, Eq)]
 pub enum Step {
-    /// The shape of each class file.
+    /// Reads the shape of each class file.
     ReadShape,
-    /// Its shape, and the rules.
+    /// Reads its shape, and checks the rules.
     ReadClass,
-    /// Its shape, the rules, and its record.
+    /// Reads its shape, checks the rules, and builds its record.
     ReadAndBuild,
-    /// Each record, from its words.
+    /// Reads each record from its words.
     ReadRecord,
 }
 
@@ -86,7 +86,7 @@ impl Step {
         }
     }
 
-    /// Runs the step over its samples once, and tells how many of them it refuses.
+    /// Runs the step over its samples once, and returns how many of them it rejects.
     pub fn run(self, alloc: Global, samples: &Samples) -> Result<usize, AllocError> {
         match self {
             Step::ReadShape => count(&samples.classes, |class| has_no_shape(alloc, class)),

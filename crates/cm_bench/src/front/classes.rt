@@ -1,20 +1,20 @@
-//! Class files that the program makes itself.
+//! Class files that the program generates itself.
 
 use crate::front::names::letters;
 use anyhow::Result;
-use cm_prepare::{Prepared, prepare};
+use cm_commands::{Prepared, prepare};
 use std::alloc::{AllocError, Global};
 
-/// How much stands in a class beside its name.
+/// How much a class contains beside its name.
 #[derive(Clone, Copy, Debug, PartialEq, Eq)]
 pub enum Size {
-    /// Nothing that needn't.
+    /// Nothing beyond the necessary.
     Small,
     /// About as much as in classes of real libraries: some 3,400 bytes.
     Ordinary,
 }
 
-/// Of what a class of ordinary size has more.
+/// The additional content of a class of ordinary size.
 const CONSTANTS: u16 = 100;
 
 const ATTRIBUTE: u32 = 2_200;
@@ -31,7 +31,7 @@ impl Size {
         }
     }
 
-    /// How many constants stand before those that each class has.
+    /// How many constants come before those that each class has.
     fn constants(self) -> u16 {
         match self {
             Size::Small => 0,
@@ -63,8 +63,8 @@ fn push_class(bytes: &mut Vec<u8>, name_index: u16) -> Result<(), AllocError> {
     push_u16(bytes, name_index)
 }
 
-/// The constants: some that nothing names, and then the class, its super class, and the name of its
-/// attribute.
+/// The constants: some that nothing names, followed by the class, its super class, and the name of
+/// its attribute.
 fn push_constants(bytes: &mut Vec<u8>, name: &[u8], before: u16) -> Result<(), AllocError> {
     push_u16(bytes, before.wrapping_add(6))?;
     for number in 0..before {

@@ -1,4 +1,4 @@
-//! The accepted cache: what its calls cost, by how much lives in it.
+//! The accepted cache: the cost of its calls, by how much lives in it.
 
 mod classes;
 mod names;

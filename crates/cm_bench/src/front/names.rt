@@ -1,9 +1,9 @@
-//! Names of loaders and of classes, some of them chosen so that they are slow to tell apart.
+//! Names of loaders and of classes, some of them chosen so that they are slow to distinguish.
 
 use cm_record::fingerprint;
 use std::alloc::{AllocError, Global};
 
-/// Names of one length, one behind another.
+/// Names of one length, one after another.
 #[derive(Drop)]
 pub struct Names {
     bytes: Vec<u8>,
@@ -22,7 +22,7 @@ impl Names {
         }
     }
 
-    /// Puts a name of the length behind the others.
+    /// Adds a name of the length after the others.
     pub fn push(&mut self, name: &[u8]) -> Result<(), AllocError> {
         self.bytes.extend_from_slice(name)?;
         self.count = self.count.wrapping_add(1);
@@ -38,8 +38,7 @@ impl Names {
         self.count
     }
 
-    /// The name at a place, where the first stands behind the last again; an empty one where there
-    /// is none.
+    /// The name at a place, counted cyclically; an empty one if there are none.
     pub fn get(&self, at: usize) -> &[u8] {
         let from = (at % self.count.max(1)).wrapping_mul(self.length);
         let to = from.wrapping_add(self.length);
@@ -50,26 +49,26 @@ impl Names {
 /// How class names are chosen.
 #[derive(Clone, Copy, Debug, PartialEq, Eq)]
 pub enum Naming {
-    /// Of eight letters.
+    /// Names of eight letters.
     Short,
-    /// With a long beginning that is the same in all of them.
+    /// Names with a long common beginning.
     Long,
-    /// Of one fingerprint.
+    /// Names with the same fingerprint.
     Meeting,
-    /// Of one fingerprint, and with a long beginning that is the same in all of them.
+    /// Names with the same fingerprint and a long common beginning.
     LongMeeting,
 }
 
 /// How many bytes a long beginning has.
 const BEGINNING: usize = 1_000;
 
-/// What a long beginning consists of.
+/// The byte that a long beginning consists of.
 const FILLER: u8 = b'x';
 
-/// By what `cm_record::fingerprint` multiplies before each word of a name.
+/// The factor by which `cm_record::fingerprint` multiplies before each word of a name.
 const STEP: u64 = 11_400_714_819_323_198_485;
 
-/// What names that meet come to before the last step of their fingerprint.
+/// The value before the last step of the fingerprint, for names that collide.
 const MEETING: u64 = 1 << 63;
 
 impl Naming {
@@ -112,12 +111,12 @@ pub fn letters(number: u32) -> [u8; 8] {
     letters
 }
 
-/// Whether a class's name may have this byte anywhere.
+/// Whether this byte may occur anywhere in a class's name.
 fn may_stand(byte: u8) -> bool {
     (0x01..=0x7F).contains(&byte) && !matches!(byte, b'.' | b';' | b'[' | b'/')
 }
 
-/// The last eight bytes of a name that meets the others, where a name may have them.
+/// The last eight bytes of a name that collides with the others, if a name may have them.
 fn meeting_end(so_far: u64) -> Option<[u8; 8]> {
     let end = MEETING
         .wrapping_sub(so_far.wrapping_mul(STEP))
@@ -129,7 +128,7 @@ fn meeting_end(so_far: u64) -> Option<[u8; 8]> {
     }
 }
 
-/// What a fingerprint comes to behind the beginning of a name.
+/// The value of a fingerprint after the beginning of a name.
 fn behind_beginning(naming: Naming, loader: u64) -> u64 {
     let seed = loader.wrapping_add(1);
     let mut number = seed.wrapping_mul(STEP).wrapping_add(naming.length() as u64);
@@ -141,11 +140,11 @@ fn behind_beginning(naming: Naming, loader: u64) -> u64 {
     number
 }
 
-/// Names classes, each unlike those before it.
+/// Generates names for classes, each different from those before it.
 #[derive(Drop)]
 pub struct Namer {
     naming: Naming,
-    /// What the letters of the next name spell, at least.
+    /// The least number that the letters of the next name spell.
     next: u32,
 }
 
@@ -158,8 +157,8 @@ impl Namer {
         self.naming
     }
 
-    /// The letters of the next name, and what stands behind them where it is to meet the others of
-    /// this loader.
+    /// The letters of the next name, and the bytes after them if it is to collide with the others
+    /// of this loader.
     fn next_end(&mut self, loader: u64) -> ([u8; 8], Option<[u8; 8]>) {
         let from = behind_beginning(self.naming, loader);
         for number in self.next..u32::MAX {
@@ -191,7 +190,7 @@ impl Namer {
     }
 }
 
-/// The fingerprint of a name in the loader of this number, as the index of rows has it.
+/// The fingerprint of a name in the loader of this number, as the index of rows computes it.
 pub fn mark(loader: u64, name: &[u8]) -> u32 {
     fingerprint(loader.wrapping_add(1), name)
 }

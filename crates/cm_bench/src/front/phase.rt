@@ -9,21 +9,21 @@ pub enum Phase {
     Seal,
     /// Each class is looked for.
     FindHit,
-    /// Classes are looked for that aren't there.
+    /// Classes that aren't there are looked for.
     FindMiss,
-    /// Some more are defined in the loaders.
+    /// Some more classes are defined in the loaders.
     Define,
-    /// New loaders come.
+    /// New loaders are added.
     AddLoader,
     /// Each new loader gets a few classes.
     DefineFew,
-    /// The new loaders go.
+    /// The new loaders are unloaded.
     Unload,
-    /// It is learnt that each of these unloads is stored.
+    /// The cache learns that each of these unloads is durable.
     Learn,
-    /// The first of the old loaders go.
+    /// The first of the old loaders are unloaded.
     UnloadFirst,
-    /// It is learnt that each of these unloads is stored.
+    /// The cache learns that each of these unloads is durable.
     LearnFirst,
 }
 
@@ -31,7 +31,7 @@ pub enum Phase {
 pub const FEW: usize = 3;
 
 impl Phase {
-    /// All of them, in the order in which they are run.
+    /// All phases, in the order in which they are run.
     pub const ALL: [Phase; 11] = [
         Phase::Fill,
         Phase::Seal,
@@ -64,11 +64,11 @@ impl Phase {
     }
 }
 
-/// What became of calls.
+/// The results of calls.
 #[derive(Clone, Copy, Debug, PartialEq, Eq)]
 pub struct Tally {
     pub calls: usize,
-    /// How many of them did or found what they were to.
+    /// How many of them did or found what they should.
     pub done: usize,
 }
 

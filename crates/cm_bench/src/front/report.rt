@@ -7,7 +7,7 @@ use anyhow::Result;
 use std::rt::Clock;
 use std::time::{Duration, Instant};
 
-/// What became of the calls of a phase, and the least time that they took in a pass.
+/// The results of the calls of a phase, and the least time that they took in a pass.
 #[derive(Clone, Copy)]
 struct Measured {
     phase: Phase,
@@ -42,13 +42,13 @@ fn measure_all(
     Ok(all)
 }
 
-/// Runs all phases once, on a cache of their own.
+/// Runs all phases once, on a cache of its own.
 fn pass(rt: &(impl Clock + AllocGlobal), samples: &Samples) -> Result<Vec<Measured>> {
     let mut stage = Stage::new(rt.alloc(), samples)?;
     measure_all(rt, &mut stage, samples)
 }
 
-/// Runs all phases in so many passes.
+/// Runs all phases in `count` passes.
 fn passes(rt: &(impl Clock + AllocGlobal), samples: &Samples, count: u32) -> Result<Vec<Measured>> {
     let mut all = pass(rt, samples)?;
     for _ in 1..count {
@@ -59,7 +59,7 @@ fn passes(rt: &(impl Clock + AllocGlobal), samples: &Samples, count: u32) -> Res
     Ok(all)
 }
 
-/// Prints the line of a phase, with the nanoseconds of a call where they are asked for.
+/// Prints the line of a phase, with the nanoseconds per call if these are requested.
 fn print_measured(rt: &impl Print, one: Measured, is_timed: bool) -> Result<()> {
     let (name, calls, done) = (one.phase.name(), one.tally.calls, one.tally.done);
     print!(rt; "  {name}: calls {calls} done {done}")?;
@@ -71,7 +71,7 @@ fn print_measured(rt: &impl Print, one: Measured, is_timed: bool) -> Result<()> 
     Ok(())
 }
 
-/// Prints a line for each phase, with the nanoseconds of a call where passes are asked for.
+/// Prints a line for each phase, with the nanoseconds per call if passes are requested.
 pub fn report(
     rt: &(impl Clock + Print + AllocGlobal),
     samples: &Samples,

@@ -1,18 +1,18 @@
-//! Classes and names that calls are made with.
+//! The classes and names that calls are made with.
 
 use crate::front::classes::class;
 use crate::front::names::{Namer, Names, letters, mark};
 use crate::front::scene::Scene;
 use anyhow::Result;
-use cm_prepare::Prepared;
+use cm_commands::Prepared;
 use rand::seq::SliceRandom;
 use rand_pcg::Pcg32;
 use std::alloc::{AllocError, Global};
 
-/// How many calls are made of a kind that changes the cache.
+/// How many calls are made of each kind that changes the cache.
 pub const CHANGES: u32 = 200;
 
-/// Which classes are looked for, each in which loader, in the order in which they are.
+/// Which classes are looked for, and in which loader, in order.
 #[derive(Drop)]
 pub struct Lookups {
     pub count: usize,
@@ -26,15 +26,15 @@ pub struct Samples {
     pub scene: Scene,
     pub loaders: Names,
     pub new_loaders: Names,
-    /// The classes that the cache is filled with, by turns for each loader.
+    /// The classes that the cache is filled with, each loader in turn.
     pub classes: Vec<Prepared>,
-    /// Classes that come to these.
+    /// Classes that are added to these.
     pub new_classes: Vec<Prepared>,
     /// Each class of the cache.
     pub hits: Lookups,
-    /// As many that it hasn't.
+    /// As many classes that it doesn't have.
     pub misses: Lookups,
-    /// How many of the classes have the fingerprint of their loader's first.
+    /// How many of the classes have the same fingerprint as the first class of their loader.
     pub met: usize,
 }
 
@@ -58,12 +58,12 @@ fn shuffle(alloc: Global, count: usize) -> Result<Vec<usize>, AllocError> {
     Ok(order)
 }
 
-/// The number of the loader that a class goes to, where each of so many has its turn.
+/// The number of the loader that a class goes to, if the loaders take turns.
 fn loader_number(at: u32, loaders: u32) -> u64 {
     u64::from(at % loaders.max(1)) + 1
 }
 
-/// Names for so many classes, by turns for each loader.
+/// Names for this many classes, each loader in turn.
 fn class_names(
     alloc: Global,
     namer: &mut Namer,
@@ -86,7 +86,7 @@ fn classes(alloc: Global, names: &Names, scene: Scene) -> Result<Vec<Prepared>> 
     Ok(classes)
 }
 
-/// The classes of these names, to be looked for in these loaders by turns, in a shuffled order.
+/// The classes of these names, to be looked for in these loaders in turn, in a shuffled order.
 fn ask_for(alloc: Global, loaders: &Names, names: &Names) -> Result<Lookups, AllocError> {
     let mut asked_loaders = Names::new(alloc, loaders.length());
     let mut asked_classes = Names::new(alloc, names.length());
@@ -101,7 +101,7 @@ fn ask_for(alloc: Global, loaders: &Names, names: &Names) -> Result<Lookups, All
     })
 }
 
-/// How many names have the fingerprint of the first.
+/// How many names have the same fingerprint as the first.
 fn count_met(names: &Names, loaders: u32, count: u32) -> usize {
     let first = mark(1, names.get(0));
     let mut met = 0usize;
@@ -113,7 +113,7 @@ fn count_met(names: &Names, loaders: u32, count: u32) -> usize {
 }
 
 impl Samples {
-    /// What a scene needs with so many classes.
+    /// What a scene needs with `count` classes.
     pub fn new(alloc: Global, scene: Scene, count: u32) -> Result<Samples> {
         let loader_count = scene.spread.loaders(count);
         let loaders = loader_names(alloc, b'L', loader_count)?;

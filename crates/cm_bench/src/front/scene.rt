@@ -29,7 +29,7 @@ impl Spread {
         }
     }
 
-    /// How many loaders there are of so many classes.
+    /// How many loaders there are for this many classes.
     pub fn loaders(self, classes: u32) -> u32 {
         match self {
             Spread::OneLoader => 1,
@@ -39,7 +39,7 @@ impl Spread {
 }
 
 impl Scene {
-    /// The scenes in the order in which they are looked at.
+    /// The scenes in the order in which they are run.
     pub const ALL: [Scene; 6] = [
         Scene {
             spread: Spread::OneLoader,

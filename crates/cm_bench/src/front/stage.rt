@@ -4,10 +4,10 @@ use crate::front::names::Names;
 use crate::front::phase::{FEW, Phase, Tally};
 use crate::front::samples::{CHANGES, Lookups, Samples};
 use anyhow::{Result, anyhow};
+use cm_commands::{Command, Prepared};
 use cm_front::Front;
 use cm_group::{Group, Receipt};
 use cm_pool::Geometry;
-use cm_prepare::{Command, Prepared};
 use std::alloc::{AllocError, Global};
 use std::mem;
 
@@ -20,11 +20,11 @@ pub struct Stage {
     ready: Vec<Prepared>,
     /// What was handed out.
     groups: Vec<Group>,
-    /// The number of the last command before the last unloads.
+    /// The number of the last command before the latest unloads.
     before_unloads: u64,
 }
 
-/// Adds loaders of these names, and counts those that were.
+/// Adds loaders of these names, and counts those that were added.
 fn add_loaders(front: &mut Front, names: &Names) -> Tally {
     let mut tally = Tally::new();
     for at in 0..names.count() {
@@ -33,7 +33,7 @@ fn add_loaders(front: &mut Front, names: &Names) -> Tally {
     tally
 }
 
-/// Unloads the first loaders of these names, at most so many.
+/// Unloads the first loaders of these names, at most `CHANGES` of them.
 fn unload(front: &mut Front, names: &Names) -> Tally {
     let mut tally = Tally::new();
     for at in 0..names.count().min(CHANGES as usize) {
@@ -42,7 +42,7 @@ fn unload(front: &mut Front, names: &Names) -> Tally {
     tally
 }
 
-/// Defines classes in loaders by turns.
+/// Defines classes in loaders, in turn.
 fn define(front: &mut Front, loaders: &Names, classes: Vec<Prepared>) -> Tally {
     let mut tally = Tally::new();
     for (at, class) in classes.into_iter().enumerate() {
@@ -75,7 +75,7 @@ fn learn(front: &mut Front, from: u64) -> Tally {
     tally
 }
 
-/// A class so many times more.
+/// Adds a class this many more times.
 fn push_shares(all: &mut Vec<Prepared>, class: &Prepared, times: u32) -> Result<(), AllocError> {
     for _ in 0..times {
         all.push(class.share()?)?;
@@ -83,7 +83,7 @@ fn push_shares(all: &mut Vec<Prepared>, class: &Prepared, times: u32) -> Result<
     Ok(())
 }
 
-/// Each class so many times more.
+/// Each class this many times.
 fn shares(alloc: Global, classes: &[Prepared], times: u32) -> Result<Vec<Prepared>, AllocError> {
     let mut all = Vec::new(alloc);
     for class in classes {
@@ -97,7 +97,7 @@ impl Stage {
     pub fn new(alloc: Global, samples: &Samples) -> Result<Stage> {
         let geometry = Geometry::new(12, 256, 65_536).ok_or(anyhow!("sizes"))?;
         let mut front = Front::new(alloc, geometry)?;
-        let _added = add_loaders(&mut front, &samples.loaders); // how many, which is known
+        let _added = add_loaders(&mut front, &samples.loaders); // the count is known
         Ok(Stage {
             alloc,
             front,
@@ -107,7 +107,7 @@ impl Stage {
         })
     }
 
-    /// Makes ready what a phase uses up.
+    /// Prepares what a phase uses up.
     pub fn make_ready(&mut self, phase: Phase, samples: &Samples) -> Result<()> {
         match phase {
             Phase::Fill => self.ready = shares(self.alloc, &samples.classes, 1)?,
@@ -119,7 +119,7 @@ impl Stage {
             Phase::Seal => self.groups.reserve(1_000)?,
             Phase::Unload | Phase::UnloadFirst => self.before_unloads = self.front.number(),
             Phase::Learn | Phase::LearnFirst => {
-                let _sealed = self.seal(); // what is learnt has to be sealed
+                let _sealed = self.seal(); // what is learnt has to be sealed before
             }
             Phase::FindHit | Phase::FindMiss | Phase::AddLoader => self.groups.clear(),
         }

@@ -1,10 +1,10 @@
-//! A disk that counts what it is asked for.
+//! A disk that counts its calls.
 
 ghost use Rattle.std.specs.Prelude.{◌≡◌};
 
 use cm_disk::{DeviceFault, Disk};
 
-/// What a disk was asked for.
+/// The counts of a disk's calls.
 #[derive(Clone, Copy, Debug, PartialEq, Eq)]
 pub struct Counts {
     pub writes: u64,
@@ -12,7 +12,7 @@ pub struct Counts {
     pub syncs: u64,
 }
 
-/// A disk, and what it was asked for.
+/// A disk, and the counts of its calls.
 #[derive(Drop)]
 pub struct CountedDisk<D: Disk> {
     disk: D,
@@ -20,7 +20,7 @@ pub struct CountedDisk<D: Disk> {
 }
 
 impl<D: Disk> CountedDisk<D> {
-    /// The same disk, asked for nothing yet.
+    /// The same disk, with nothing counted yet.
     pub fn new(disk: D) -> CountedDisk<D>
         ensures { result.disk ≡ disk }
     {
@@ -34,7 +34,7 @@ impl<D: Disk> CountedDisk<D> {
         }
     }
 
-    /// What it was asked for by now.
+    /// The counts of its calls so far.
     pub fn counts(&self) -> Counts {
         self.counts
     }

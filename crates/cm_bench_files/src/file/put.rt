@@ -1,12 +1,12 @@
-//! Classes that are stored.
+//! Stores classes.
 
 use crate::file::counted::{CountedDisk, Counts};
 use anyhow::Result;
+use cm_commands::{Command, Prepared, Refusal, prepare};
 use cm_commit::Progress;
 use cm_disk::Disk;
 use cm_file_disk::{FileDisk, OpenedFile};
 use cm_pool::Geometry;
-use cm_prepare::{Command, Prepared, Refusal, prepare};
 use cm_recover::{NotOpened, bytes_read, format};
 use cm_session::{Session, open};
 use std::alloc::{AllocError, Global};
@@ -80,8 +80,8 @@ pub fn open_file(rt: &(impl Files<File = File> + AllocGlobal), path: &str) -> Re
     Ok(FileDisk::of_file(opened, reach)?)
 }
 
-/// Opens a file for storing. What its disk is asked for is counted from here on, so the sync of
-/// opening is among it.
+/// Opens a file for storing. The calls of its disk are counted from here on, so they include the
+/// sync of opening.
 pub fn open_session(
     rt: &(impl Files<File = File> + AllocGlobal),
     path: &str,
@@ -90,8 +90,8 @@ pub fn open_session(
     session_of(rt.alloc(), disk)
 }
 
-/// Makes a file of these sizes, in which the loader is. A disk that was written to isn't read
-/// again, so the file is opened anew in between.
+/// Makes a file of these sizes, with the loader in it. A disk that was written to isn't read again,
+/// so the file is opened anew in between.
 pub fn make_cache(
     rt: &(impl Files<File = File> + AllocGlobal),
     path: &str,
@@ -104,7 +104,7 @@ pub fn make_cache(
     added
 }
 
-/// Accepts a class, and tells whether it is new: a stream may have a name twice.
+/// Accepts a class, and returns whether it is new: a stream may have a name twice.
 fn accept<D: Disk>(session: &mut Session<D>, class: Prepared) -> Result<bool> {
     match session.accept(Command::Define(LOADER, class)) {
         Ok(_) => Ok(true),
@@ -120,7 +120,7 @@ fn commit_group<D: Disk>(session: &mut Session<D>, stored: &mut Stored) -> Resul
     Ok(())
 }
 
-/// Accepts a class, and tells how many commands wait for their commit then.
+/// Accepts a class, and returns how many commands then wait for their commit.
 fn take<D: Disk>(
     session: &mut Session<D>,
     class: Prepared,
@@ -136,7 +136,7 @@ fn take<D: Disk>(
     Ok(waiting.saturating_add(1))
 }
 
-/// Defines classes in the loader, so many a commit.
+/// Defines classes in the loader, `group` of them per commit.
 pub fn store_all<D: Disk>(
     session: &mut Session<D>,
     classes: Vec<Prepared>,
@@ -161,7 +161,7 @@ pub fn store_all<D: Disk>(
     Ok(stored)
 }
 
-/// What the disk of a session was asked for.
+/// The counts of the calls of a session's disk.
 pub fn close<D: Disk + Drop>(session: Session<CountedDisk<D>>) -> Counts {
     session.into_disk().counts()
 }

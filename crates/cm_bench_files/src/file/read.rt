@@ -1,11 +1,11 @@
-//! Classes that are found in a file.
+//! Finds classes in a file.
 
 use anyhow::Result;
+use cm_commands::Prepared;
 use cm_commit::Committer;
 use cm_file_disk::FileDisk;
 use cm_front::Front;
 use cm_layout::Row;
-use cm_prepare::Prepared;
 use cm_recover::{NotOpened, open};
 use rand::seq::SliceRandom;
 use rand_pcg::Pcg32;
@@ -33,7 +33,7 @@ pub fn open_disk(alloc: Global, disk: FileDisk) -> Result<(Front, Committer<File
     }
 }
 
-/// The name of the loader of a number, copied; of none the empty name.
+/// A copy of the name of the loader of a number; the empty name if there is none.
 fn name_of(alloc: Global, loaders: &[LoaderName], number: u64) -> Result<Vec<u8>, AllocError> {
     for loader in loaders {
         if loader.number == number {
@@ -43,7 +43,7 @@ fn name_of(alloc: Global, loaders: &[LoaderName], number: u64) -> Result<Vec<u8>
     Ok(Vec::new(alloc))
 }
 
-/// The name of a class, copied, with that of its loader.
+/// A copy of the name of a class, with that of its loader.
 fn class_name_of(
     alloc: Global,
     loaders: &[LoaderName],
@@ -55,7 +55,7 @@ fn class_name_of(
     Ok(ClassName { loader, class })
 }
 
-/// The names of loaders and of classes that rows were seen of.
+/// The names of loaders and of classes whose rows were seen.
 #[derive(Drop)]
 struct Seen {
     loaders: Vec<LoaderName>,
@@ -97,14 +97,14 @@ fn see_all(alloc: Global, front: &Front) -> Result<Seen> {
     Ok(seen)
 }
 
-/// Where a loader's name ends, and where the name of its class behind it does.
+/// Where a loader's name ends, and where the name of its class after it ends.
 #[derive(Clone, Copy)]
 struct Ends {
     loader: usize,
     class: usize,
 }
 
-/// The names of classes, one behind another in the order in which they are looked up, so that
+/// The names of classes, one after another in the order in which they are looked up, so that
 /// fetching them takes no time of its own.
 #[derive(Drop)]
 pub struct Asked {

@@ -6,8 +6,8 @@ use crate::file::put::Stored;
 use crate::file::read::{open_disk, shuffled_names};
 use crate::file::timed::{find_timed, prepare_timed, put_timed, read_timed};
 use anyhow::Result;
+use cm_commands::Prepared;
 use cm_front::Front;
-use cm_prepare::Prepared;
 use cm_stream::{classes_in, read_stream};
 use std::fs::{File, Files};
 use std::rt::Clock;
@@ -60,8 +60,8 @@ pub fn read_classes(
     told
 }
 
-/// Looks up each class of a cache, and prints how many there are and what it took, the opening that
-/// began at `start` and the reading before it too.
+/// Looks up each class of a cache, and prints how many there are and what it took, including the
+/// opening that began at `start` and the reading before it.
 fn look_up(
     rt: &(impl Clock + Print + AllocGlobal),
     front: &Front,

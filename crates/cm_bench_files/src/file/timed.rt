@@ -1,4 +1,4 @@
-//! The calls that are measured, with how long they took, in nanoseconds.
+//! The calls that are measured, with the time they took in nanoseconds.
 
 use crate::command::Putting;
 use crate::file::counted::Counts;
@@ -7,10 +7,10 @@ use crate::file::put::{
 };
 use crate::file::read::{Asked, find_all};
 use anyhow::Result;
+use cm_commands::Prepared;
 use cm_disk::Disk;
 use cm_file_disk::FileDisk;
 use cm_front::Front;
-use cm_prepare::Prepared;
 use cm_session::Session;
 use std::fs::{File, Files};
 use std::rt::Clock;
@@ -38,7 +38,7 @@ fn store_timed<D: Disk>(
     Ok((stored, start.elapsed(rt)?.as_nanos()))
 }
 
-/// Stores classes in a new file, and counts what its disk is asked for.
+/// Stores classes in a new file, and counts the calls of its disk.
 pub fn put_timed(
     rt: &(impl Clock + Files<File = File> + AllocGlobal),
     path: &str,

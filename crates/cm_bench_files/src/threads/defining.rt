@@ -2,7 +2,7 @@
 
 use crate::threads::scene::{Sample, Scene};
 use cm_cache::{Cache, Naming, Pass};
-use cm_prepare::{Prepared, Refusal, prepare};
+use cm_commands::{Prepared, Refusal, prepare};
 use rand_core::Rng;
 use rand_pcg::Pcg32;
 use std::alloc::Global;
@@ -10,7 +10,7 @@ use std::rt::Clock;
 use std::sync::Wait;
 use std::time::{Duration, Instant};
 
-/// What a thread defines: of so many threads each has its turn.
+/// Which classes a thread defines: `threads` threads take turns.
 #[derive(Clone, Copy, Debug)]
 pub struct Turn {
     pub thread: u32,
@@ -19,7 +19,7 @@ pub struct Turn {
     pub is_prepared: bool,
 }
 
-/// What came of a thread's look-ups.
+/// The result of a thread's lookups.
 #[derive(Clone, Copy, Debug)]
 pub struct Looks {
     pub calls: u64,
@@ -29,7 +29,7 @@ pub struct Looks {
     pub longest: Duration,
 }
 
-/// Look-ups that are made until no class is defined any more.
+/// How many lookups are made at most, while classes are still being defined.
 const MOST_LOOKS: u32 = 100_000_000;
 
 fn class_of(alloc: Global, sample: &Sample<'_>, turn: Turn) -> Result<Prepared, Refusal> {
@@ -53,7 +53,8 @@ fn define<K: Naming, R: Wait>(
     cache.define(rt, pass, loader, class)
 }
 
-/// Makes a loader, and defines each class in it whose turn it is. How many commands were stored.
+/// Makes a loader, and defines each class in it whose turn it is. Returns how many commands were
+/// stored.
 pub fn define_all<K: Naming, R: Wait>(
     rt: &R,
     alloc: Global,
@@ -79,7 +80,7 @@ fn turn_of(at: usize, threads: u32) -> usize {
     at.checked_rem(threads as usize).unwrap_or(0)
 }
 
-/// Looks up a class by chance, in the loader in which it is defined.
+/// Looks up a random class, in the loader in which it is defined.
 fn look_up<K: Naming, R: Wait>(
     rt: &R,
     cache: &Cache<K>,
@@ -125,7 +126,7 @@ fn time_since(rt: &impl Clock, start: Option<Instant>) -> Duration {
 }
 
 impl Looks {
-    /// Look-ups that weren't made yet.
+    /// No lookups yet.
     pub const NONE: Looks = Looks {
         calls: 0,
         found: 0,

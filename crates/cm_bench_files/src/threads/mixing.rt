@@ -1,8 +1,8 @@
-//! Changes and look-ups by chance, for a while.
+//! Random changes and lookups, for a while.
 
 use crate::threads::scene::{Sample, Scene};
 use cm_cache::{Cache, Naming, Pass};
-use cm_prepare::{Refusal, prepare};
+use cm_commands::{Refusal, prepare};
 use rand_core::Rng;
 use rand_pcg::Pcg32;
 use std::alloc::Global;
@@ -16,7 +16,7 @@ pub const LOADERS: u32 = 2;
 /// How many calls a thread makes at most.
 const MOST_CALLS: u32 = 10_000_000;
 
-/// Until when a thread goes on, and which it is.
+/// Until when a thread continues, and which thread it is.
 #[derive(Clone, Copy, Debug)]
 pub struct Mix {
     pub thread: u32,
@@ -24,7 +24,7 @@ pub struct Mix {
     pub limit: Duration,
 }
 
-/// What a call asks for, of which loader and which class.
+/// What a call requests, of which loader and which class.
 #[derive(Clone, Copy, Debug)]
 pub enum Asked {
     Loader(usize),
@@ -33,30 +33,30 @@ pub enum Asked {
     Find(usize, usize),
 }
 
-/// What was answered.
+/// The result of a call.
 #[derive(Clone, Copy, Debug)]
 pub enum Answer {
     Number(u64),
     /// Refused, with the number of the refusal.
     Refused(u8),
-    /// A class was found, whose record has so many words.
+    /// A class was found, whose record has this many words.
     Words(u32),
     Nothing,
 }
 
-/// A call, and what was answered.
+/// A call, and its result.
 #[derive(Clone, Copy, Debug)]
 pub struct Step {
     pub asked: Asked,
     pub answer: Answer,
 }
 
-/// A number below a count, by chance.
+/// A random number below a count.
 fn below(rng: &mut Pcg32, count: usize) -> usize {
     (rng.next_u32() as usize).checked_rem(count).unwrap_or(0)
 }
 
-/// What to ask for next: mostly classes.
+/// What to request next: mostly classes.
 fn next_asked(rng: &mut Pcg32, thread: u32, classes: usize) -> Asked {
     let own = below(rng, LOADERS as usize);
     let loader = (thread as usize)
@@ -78,7 +78,7 @@ fn answer_of(answer: Result<u64, Refusal>) -> Answer {
     }
 }
 
-/// Prepares a class, as a loader does that has its bytes, and defines it.
+/// Prepares a class, as a class loader that has its bytes does, and defines it.
 fn define<K: Naming, R: Wait>(
     rt: &R,
     alloc: Global,
@@ -104,7 +104,7 @@ fn find<K: Naming, R: Wait>(
     }
 }
 
-/// Makes a call. A class that there isn't is found nowhere.
+/// Makes a call. A class that doesn't exist is never found.
 fn call<K: Naming, R: Wait>(
     rt: &R,
     alloc: Global,
@@ -129,7 +129,7 @@ fn call<K: Naming, R: Wait>(
     }
 }
 
-/// Whether a thread's time is over, or can't be told.
+/// Whether a thread's time is over, or can't be read.
 fn is_over(rt: &impl Clock, mix: Mix) -> bool {
     match mix.start.elapsed(rt) {
         Ok(elapsed) => elapsed >= mix.limit,
@@ -137,7 +137,8 @@ fn is_over(rt: &impl Clock, mix: Mix) -> bool {
     }
 }
 
-/// Makes calls until the time is over. A call that isn't kept, since memory ran out, is the last.
+/// Makes calls until the time is over. A call that isn't kept, because an allocation failed, is the
+/// last.
 pub fn mix_calls<K: Naming, R: Clock + Wait>(
     rt: &R,
     alloc: Global,

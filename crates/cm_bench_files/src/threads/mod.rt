@@ -23,7 +23,7 @@ use std::sync::Wait;
 use std::thread::Threads;
 use std::time::{Duration, Instant};
 
-/// Calls by chance for each of so many threads, from now on.
+/// Random calls for each of `threads` threads, from now on.
 fn mixes(rt: &(impl Clock + AllocGlobal), soaking: &Soaking) -> Result<Vec<Duty>> {
     let start = Instant::now(rt)?;
     let limit = Duration::from_secs(u64::from(soaking.seconds));
@@ -38,7 +38,7 @@ fn mixes(rt: &(impl Clock + AllocGlobal), soaking: &Soaking) -> Result<Vec<Duty>
     Ok(duties)
 }
 
-/// Has threads make calls by chance on the cache in a file.
+/// Has threads make random calls on the cache in a file.
 fn run_mixes<R>(rt: &R, soaking: &Soaking, scene: &Scene<'_>) -> Result<Ran<FileDisk>>
 where
     R: Clock + Files<File = File> + AllocGlobal,
@@ -49,8 +49,8 @@ where
     run_duties(rt, rt.alloc(), disk, scene, &duties)
 }
 
-/// Has threads change the cache in a file and look up in it for a while, and prints each call with
-/// what it was answered.
+/// Has threads change the cache in a file and look up classes in it for a while, and prints each
+/// call with its result.
 pub fn soak<R>(rt: &R, soaking: &Soaking) -> Result<()>
 where
     R: Clock + Files<File = File> + Input + Print + AllocGlobal,
@@ -63,7 +63,7 @@ where
     print_steps(rt, &scene, &ran.works, ran.totals)
 }
 
-/// The duties of those that define, and of those that look up.
+/// The duties of the threads that define, and of those that look up.
 fn turns(alloc: Global, threading: &Threading) -> Result<Vec<Duty>, AllocError> {
     let mut duties = Vec::new(alloc);
     for thread in 0..threading.threads {

@@ -18,7 +18,7 @@ fn print_totals(rt: &impl Print, totals: Totals) -> Result<()> {
     Ok(())
 }
 
-/// Prints the loader of a name that is in the list.
+/// Prints the loader of a name in the list.
 fn print_loader(rt: &impl Print, scene: &Scene<'_>, at: usize) -> Result<()> {
     if let Some(name) = scene.loaders.get(at) {
         print!(rt; " {name}")?;
@@ -26,7 +26,7 @@ fn print_loader(rt: &impl Print, scene: &Scene<'_>, at: usize) -> Result<()> {
     Ok(())
 }
 
-/// Prints what a call asked for: its verb, its loader, and the number of its class, from 0.
+/// Prints what a call requested: its verb, its loader, and the number of its class, from 0.
 fn print_asked(rt: &impl Print, scene: &Scene<'_>, asked: Asked) -> Result<()> {
     let (verb, loader, class) = match asked {
         Asked::Loader(loader) => ("loader", loader, None),
@@ -57,8 +57,7 @@ fn print_step(rt: &impl Print, scene: &Scene<'_>, step: Step) -> Result<()> {
     print_answer(rt, step.answer)
 }
 
-/// Prints each call of each thread with what it was answered, in the thread's order, and what was
-/// counted.
+/// Prints each call of each thread with its result, in the thread's order, and what was counted.
 pub fn print_steps(
     rt: &impl Print,
     scene: &Scene<'_>,
@@ -96,8 +95,8 @@ fn add_up(works: &[Work]) -> Sums {
     Sums { stored, looks }
 }
 
-/// Prints how many commands were stored, and, where times are asked for, in how many syncs and
-/// nanoseconds, and what a look-up took.
+/// Prints how many commands were stored and, if times are requested, in how many syncs and
+/// nanoseconds, and what a lookup took.
 pub fn print_sums(
     rt: &impl Print,
     works: &[Work],

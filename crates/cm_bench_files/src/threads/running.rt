@@ -1,4 +1,4 @@
-//! A cache that is started for threads, and closed behind them.
+//! A cache that is started for threads, and closed after them.
 
 ghost use Rattle.cm_cache.specs.Starting.{Belongs, MayStart};
 
@@ -50,7 +50,7 @@ struct Done<K: Naming> {
     work: Work,
 }
 
-/// What all threads gave back, and how many nanoseconds they took.
+/// What all threads returned, and how many nanoseconds they took.
 #[derive(Drop)]
 struct AllDone<K: Naming> {
     passes: Vec<Pass<K>>,
@@ -67,7 +67,7 @@ pub struct Totals {
     pub missing: u64,
 }
 
-/// What became of a cache and its threads.
+/// The result of a cache and its threads.
 #[derive(Drop)]
 pub struct Ran<D: Disk> {
     pub totals: Totals,

@@ -1,7 +1,7 @@
 //! What threads work on: classes, and loaders to define them in.
 
 use anyhow::Result;
-use cm_prepare::{Prepared, Refusal, prepare};
+use cm_commands::{Prepared, Refusal, prepare};
 use cm_stream::classes_in;
 use std::alloc::{AllocError, Global};
 use std::sync::atomic::{AtomicU64, Ordering};
@@ -24,7 +24,7 @@ pub struct Scene<'a> {
     defining: AtomicU64,
 }
 
-/// A class by its bytes; none where it can't be defined.
+/// The class of these bytes; `None` if it can't be defined.
 fn sample_of<'a>(alloc: Global, bytes: &'a [u8]) -> Result<Option<Sample<'a>>, AllocError> {
     match prepare(alloc, bytes) {
         Ok(class) => {
@@ -56,7 +56,7 @@ fn loader_names(alloc: Global, count: u32) -> Result<Vec<String>, AllocError> {
 }
 
 impl<'a> Scene<'a> {
-    /// The classes of a stream, and so many loaders; as many threads define.
+    /// The classes of a stream, and `loaders` loaders; `definers` threads define classes.
     pub fn new(alloc: Global, stream: &'a [u8], loaders: u32, definers: u32) -> Result<Scene<'a>> {
         let classes = classes_in(alloc, stream)?;
         Ok(Scene {
@@ -71,12 +71,12 @@ impl<'a> Scene<'a> {
         self.defining.load(Ordering::SeqCst) != 0
     }
 
-    /// Says that a thread has defined all that it was to.
+    /// Notes that a thread has defined all that it had to.
     pub fn end_one(&self) {
         self.defining.fetch_sub(1, Ordering::SeqCst);
     }
 
-    /// The name of a loader; of none that is there the empty name.
+    /// The name of a loader; the empty name if there is none.
     pub fn loader(&self, at: usize) -> &[u8] {
         match self.loaders.get(at) {
             Some(name) => name.as_bytes(),

@@ -70,7 +70,7 @@ returns-then-roots-roots_needed-clause-next g c =
     (root_write j.geometry roots) (Turn (next_gate j) open_gate ∷ [])
     (next_root j.geometry j.half j.end j.number all roots unwritten lt)
 
--- it is one of those of the group
+-- the record is one of those of the group
 same_found : (given all : List Carried) (from : ℕ) (o : Option (Place × List ℕ)) → given ≡ all
     → slice_get (all_writes given) from ≡ o → slice_get (all_writes all) from ≡ o
 same_found given all from o same found =

@@ -10,7 +10,7 @@ use Rattle.cm_commit.specs.Steps.{checkpoint_rest}
 use Rattle.cm_commit.proofs.Renewals.{Stand}
 use Rattle.cm_commit.proofs.renewal.make_calls.Given as goal
 
--- What stands on the disk where these steps are left; so far a crash left what is committed, and no
+-- What holds of the disk if these steps are left; so far a crash left what is committed, and no
 -- call failed.
 abbrev pub invariant-loop-next : goal.invariant-loop-next
 invariant-loop-next g l =

@@ -6,7 +6,7 @@ use Rattle.cm_events.specs.declared.made.Made.{Made}
 use Rattle.cm_events.specs.Made.{EachComes, AreOf, first_bad_from, event_in, turn_of}
 use Rattle.cm_events.proofs.simulation.read_events.Given as goal
 
--- what becomes of the lines that are left goes behind what there is
+-- the results of the lines that are left are appended to what there is
 abbrev pub invariant-lines : goal.invariant-lines
 invariant-lines l = record {
   geometry : l.simulation.geometry ≡ l.fn.geometry;

@@ -8,7 +8,7 @@ use Rattle.cm_index.proofs.Joined.{crowded, joined-halved, lower-halved, upper-h
 use Rattle.cm_index.proofs.Joined.{before-halved, length-halved}
 use Rattle.cm_index.proofs.blocks.open.Goals as goal
 
--- a block that is said to be full is
+-- a block that is reported as full is full
 full : (bs : List (List IndexEntry)) (i : ℕ) (now : List IndexEntry) → i < length bs
     → now ≡ get_or bs i now → true ≡ eqb (length now) 1024 → length (get_or bs i []) ≡ 1024
 full bs i now lt is test =

@@ -1,6 +1,6 @@
 use Rattle.std.proofs.Common.{◌≡◌, Some, sym, ◌∙◌, ap, subst, arith}
 use Rattle.std.proofs.lemmas.Option.{slice_get_within, get_or_from_slice_get}
-use Rattle.cm_index.specs.Index.{rank, keys_at, IsIndex, Parts}
+use Rattle.cm_index.specs.Index.{rank, keys_at, IsIndex, SplitsKeys}
 use Rattle.cm_index.specs.Sought.{name_sought, key_sought}
 use Rattle.cm_index.specs.Blocks.{Entries, joined, place_of}
 use Rattle.cm_index.proofs.Indexes.{Found, absent-at}
@@ -20,7 +20,7 @@ returns-in_default g c =
     (ap (λ (v : Entries). v.items) (sym c.index.view_is)) c.requires.index in
     let absent = rw (c.deref.ensures.value) at c.in_default.ensures.absent in
     let parts =
-    subst (Parts (keys_at g.P.Kept.name slots (joined bs)) place) c.requires.key.is absent in
+    subst (SplitsKeys (keys_at g.P.Kept.name slots (joined bs)) place) c.requires.key.is absent in
     sym (absent-at g.P.Kept.mark g.P.Kept.name slots (joined bs) place (rank s.owner)
     (name_sought g.P.Kept.name s.name) index parts)
 

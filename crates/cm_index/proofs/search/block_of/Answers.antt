@@ -13,7 +13,7 @@ use Rattle.cm_index.proofs.Sweeping.{within-slots}
 use Rattle.cm_index.proofs.Searching.{before-first, from-first, all-in}
 use Rattle.cm_index.proofs.search.block_of.Goals as goal
 
--- where the search looks next there is a block, which isn't the first
+-- there is a block where the search looks next, and it isn't the first
 half : (bs : List (List IndexEntry)) (m : ℕ) (now : List IndexEntry) → m < length bs
     → now ≡ get_or bs m now → now ≡ get_or bs m []
 half bs m now lt is = get_or_read bs m now lt is []

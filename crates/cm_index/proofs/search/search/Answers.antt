@@ -2,14 +2,14 @@ use Rattle.std.proofs.Common.{◌≡◌, ◌<◌, ℕ, List, [], length, get_or,
 use Rattle.std.specs.List.{AllByRecursion}
 use Rattle.std.proofs.lemmas.List.{get_or_read}
 use Rattle.cm_index.specs.declared.index.IndexEntry.{IndexEntry}
-use Rattle.cm_index.specs.Index.{keys_at, Rise, Parts, IsKeyAt}
+use Rattle.cm_index.specs.Index.{keys_at, Rise, SplitsKeys, IsKeyAt}
 use Rattle.cm_index.specs.Sought.{key_sought}
 use Rattle.cm_index.specs.Blocks.{joined}
 use Rattle.cm_index.proofs.Sweeping.{within-slots}
 use Rattle.cm_index.proofs.Searching.{all-in, rises-in, found-in, absent-in}
 use Rattle.cm_index.proofs.search.search.Goals as goal
 
--- what is looked through is the block
+-- what is searched is the block
 block : (bs : List (List IndexEntry)) (i : ℕ) (now es : List IndexEntry) → i < length bs
     → now ≡ get_or bs i now → es ≡ now → es ≡ get_or bs i []
 block bs i now es lt is e = e ∙ get_or_read bs i now lt is []
@@ -55,5 +55,5 @@ returns-in-Err-clause-absent g c =
     b.within c.index-blocks-block.is c.entries.ensures in
     absent-in g.P.Kept.name c.args.slots.now bs c.block_of-block.result c.in-Err.place k b.within
     b.below b.above
-    (subst (λ (es : List IndexEntry). Parts (keys_at g.P.Kept.name c.args.slots.now es)
+    (subst (λ (es : List IndexEntry). SplitsKeys (keys_at g.P.Kept.name c.args.slots.now es)
     c.in-Err.place k) is c.in-Err.ensures.absent)

@@ -2,14 +2,14 @@ use Rattle.std.proofs.Common.{◌≡◌, arith, ℕ, Bool, true, false, cond, �
 use Rattle.std.proofs.Common.{◌++◌, All, Some, None, refl, sym, ap, ◌∙◌}
 use Rattle.std.specs.Prelude.{codes}
 use Rattle.std.specs.Str.{bytes_eq}
-use Rattle.cm_lines.specs.Lines.{AsksUnloadAll, are_words, question_of_few, question_of_words}
-use Rattle.cm_lines.specs.Lines.{question_in, pieces}
+use Rattle.cm_lines.specs.Lines.{AsksUnloadAll, are_words, request_of_few, request_of_words}
+use Rattle.cm_lines.specs.Lines.{request_in, pieces}
 use Rattle.cm_lines.proofs.Cuts.{pieces_cut, pieces_none}
 use Rattle.cm_lines.proofs.line.parse.Goals as goal
 use Rattle.cm_lines.proofs.line.parse.Goals.{else-eq-via-then-eq+else-are_words}
 use Rattle.cm_lines.proofs.line.parse.Goals.{else-eq-via-else-eq}
 
-nothing_behind : (verb : List ℕ) → question_of_words (verb ∷ []) ≡ None
+nothing_behind : (verb : List ℕ) → request_of_words (verb ∷ []) ≡ None
 nothing_behind verb = chosen (bytes_eq verb (codes "unloadall"))
   where
     chosen : (t : Bool) → cond (t && false) (Some (AsksUnloadAll [])) None ≡ None
@@ -19,18 +19,18 @@ nothing_behind verb = chosen (bytes_eq verb (codes "unloadall"))
 pub returns-in_err-verb : goal.returns-in_err-verb
 returns-in_err-verb c =
     rw c.from_residual.ensures
-    (sym (ap question_of_words (pieces_none 32 c.args.line.now c.in_err-verb.ensures.none)
+    (sym (ap request_of_words (pieces_none 32 c.args.line.now c.in_err-verb.ensures.none)
     ∙ nothing_behind c.args.line.now))
 
--- whether all words behind the verb are names
+-- whether all words after the verb are names
 of_line : (line verb words : List ℕ) → line ≡ verb ++ 32 ∷ words → All (λ b. b ≢ 32) verb
     → (t : Bool) → (bytes_eq verb (codes "unloadall") && are_words (pieces 32 words)) ≡ t
-    → question_in line
-    ≡ cond t (Some (AsksUnloadAll (pieces 32 words))) (question_of_few verb (pieces 32 words))
+    → request_in line
+    ≡ cond t (Some (AsksUnloadAll (pieces 32 words))) (request_of_few verb (pieces 32 words))
 of_line line verb words found first t is =
     let names = pieces 32 words in
-    ap question_of_words (pieces_cut 32 line verb words found first)
-    ∙ ap (λ t. cond t (Some (AsksUnloadAll names)) (question_of_few verb names)) is
+    ap request_of_words (pieces_cut 32 line verb words found first)
+    ∙ ap (λ t. cond t (Some (AsksUnloadAll names)) (request_of_few verb names)) is
 
 pub returns-then-are_words : goal.returns-then-are_words
 returns-then-are_words c =

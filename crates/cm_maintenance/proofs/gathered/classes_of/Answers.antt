@@ -3,7 +3,7 @@ use Rattle.std.proofs.lemmas.Result.{IfOk-weaker}
 use Rattle.std.specs.BTreeMap.{BTreeMap}
 use Rattle.std.specs.Global.{Vec}
 use Rattle.cm_maintenance.specs.declared.listing.ListedClass.{ListedClass}
-use Rattle.cm_maintenance.specs.Gathered.{kept_in}
+use Rattle.cm_maintenance.specs.Gathered.{classes_kept}
 use Rattle.cm_maintenance.proofs.Entries.{values-by_bytes}
 use Rattle.cm_maintenance.proofs.gathered.classes_of.Goals as goal
 
@@ -11,7 +11,7 @@ pub returns-in-Some : goal.returns-in-Some
 returns-in-Some c =
     let there =
     ap (λ (o : Option (BTreeMap (Vec ℕ) ListedClass)). map (λ (e : List ℕ × ListedClass). e.1)
-    (kept_in o))
+    (classes_kept o))
     c.in-Some.ensures.value in
     IfOk-weaker c.classes_in_order.result _ _
     (λ list is. is ∙ (sym (values-by_bytes c.in-Some.classes.now.entries) ∙ there))

@@ -3,7 +3,7 @@ use Rattle.cm_layout.specs.Rows.{numbers_in, classes_in}
 use Rattle.cm_maintenance.specs.Report.{first_records}
 use Rattle.cm_maintenance.proofs.report.count.Given as goal
 
--- what is counted and what is left come to all rows
+-- what is counted and what is left are all rows
 abbrev pub invariant-loop-row : goal.invariant-loop-row
 invariant-loop-row l = record {
   loaders : l.report.loaders + length (numbers_in l.left) ≡ length (numbers_in l.rows.rows);

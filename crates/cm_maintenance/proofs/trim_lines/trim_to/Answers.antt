@@ -112,7 +112,7 @@ returns-in-Err-clause-told g c =
           (sym c.with_disk-in-Err.ensures.status) c.tell_fault-status.ensures;
     }
 
--- what a crash leaves now it may have left at the end of opening
+-- what a crash leaves now it may have left when opening ended
 pub returns-in-Err-clause-images : goal.returns-in-Err-clause-images
 returns-in-Err-clause-images g c =
     let disk = g.D.Disk in

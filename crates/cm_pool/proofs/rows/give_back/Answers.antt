@@ -2,7 +2,7 @@ use Rattle.std.proofs.Common.{◌≡◌, ℕ, ◌<◌, ◌||◌, true, false, Li
 use Rattle.std.proofs.Common.{arith}
 use Rattle.std.proofs.lemmas.Bool.{both_ways, false_from_ne_true}
 use Rattle.cm_pool.specs.Blocks.{is_in, other_half}
-use Rattle.cm_pool.specs.Rows.{is_marked, is_covered, without_mark, HasPlace, IsKept}
+use Rattle.cm_pool.specs.Rows.{is_marked, is_covered, without_mark, HasPlace, AreBitRows}
 use Rattle.cm_pool.proofs.Marks.{marked-place, covered-with}
 use Rattle.cm_pool.proofs.Trees.{IsHole, hole-place, hole-join, hole-fill, covered-join}
 use Rattle.cm_pool.proofs.rows.give_back.Goals as goal
@@ -88,7 +88,7 @@ mark-requires c =
 
 pub returns-clause-kept : goal.returns-clause-kept
 returns-clause-kept c = λ limit kept low.
-    subst (IsKept c.args.top limit) (sym c.mark.ensures)
+    subst (AreBitRows c.args.top limit) (sym c.mark.ensures)
     (hole-fill c.args.top limit c.loop-rows.rows.items c.loop-rows.block
     (c.loop-rows.invariant.hole limit kept low)
     (alone (goal.at.returns-clause-kept c).After-joins c.loop-rows-test.false))

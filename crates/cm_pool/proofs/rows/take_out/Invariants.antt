@@ -1,13 +1,13 @@
 use Rattle.std.proofs.Common.{◌-◌, ◌≡◌, ℕ, ◌||◌}
 use Rattle.cm_pool.specs.Blocks.{is_in, Inside}
-use Rattle.cm_pool.specs.Rows.{is_covered, IsKept}
+use Rattle.cm_pool.specs.Rows.{is_covered, AreBitRows}
 use Rattle.cm_pool.proofs.Trees.{IsHole}
 use Rattle.cm_pool.proofs.rows.take_out.Given as goal
 
 abbrev pub invariant-loop-block : goal.invariant-loop-block
 invariant-loop-block l =
     record {
-      hole : (top limit : ℕ) → IsKept top limit l.fn.rows.items
+      hole : (top limit : ℕ) → AreBitRows top limit l.fn.rows.items
           → IsHole top limit l.rows.items l.block;
       inside : Inside l.wanted l.block;
       covered : (g : ℕ)

@@ -54,7 +54,7 @@ halves-requires-clause-fits c =
           (low c (start b) (or_left (is_in b (start b)) _ (is_in-start b))).1,
     )
 
--- a list without a halved block, and with one of its halves, is one of those that there is room for
+-- there is room for the list without a halved block and with one of its halves
 pub put-requires-clause-room : goal.put-requires-clause-room
 put-requires-clause-room c =
     let xs = c.loop-block.free.items in

@@ -7,7 +7,7 @@ use Rattle.cm_record_reading.proofs.Fronts.{run_stops}
 use Rattle.cm_record_reading.proofs.Skips.{run_behind}
 use Rattle.cm_record_reading.proofs.checking.skip_run.Goals as goal
 
--- what the run leaves is what its end leaves, behind the whole words
+-- what the run leaves is what its end leaves, after the whole words
 ends : (count : ℕ) (words rest : List ℕ) → count / 8 ≤ length words → AreSmall words
     → rest ≡ take (length words - count / 8) (drop (count / 8) words)
     → left1 (run_at count words) ≡ left1 (run_at (count % 8) rest)

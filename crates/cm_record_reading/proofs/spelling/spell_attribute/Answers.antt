@@ -2,7 +2,7 @@ use Rattle.std.proofs.Common.{◌≡◌, ◌-◌, ◌∙◌, ℕ, List, length, 
 use Rattle.std.proofs.lemmas.Result.{err_from_is_err_and}
 use Rattle.cm_class.specs.Spelling.{attribute_bytes}
 use Rattle.cm_record_layout.specs.Packing.{first_of, upper_of}
-use Rattle.cm_record_reading.specs.Reading.{attribute_word, attribute_at, run_at, behind, behind3}
+use Rattle.cm_record_reading.specs.Reading.{attribute_word, attribute_at, run_at, appended, behind3}
 use Rattle.cm_record_reading.specs.Reading.{content_bytes}
 use Rattle.cm_record_reading.proofs.Counts.{attribute_spelled, with_rest}
 use Rattle.cm_record_reading.proofs.Turns.{fails_through}
@@ -28,7 +28,7 @@ returns-in_err-runs-clause-read c =
     c.if-at-total.false in
     let p = err_from_is_err_and c.from_residual.result c.from_residual.ensures.1 in
     rw (p.1, p.2) (fails_through c.in_err-runs.field-0.0
-    (behind out (content_bytes (first_of w)) (run_at (upper_of w) runs))
+    (appended out (content_bytes (first_of w)) (run_at (upper_of w) runs))
     (behind3 out attribute_bytes (attribute_at c.args.total attrs runs))
     (λ none. same ∙ ap (with_rest {A = List ℕ} {B = List ℕ} {C = List ℕ} rest) none)
     (rw (c.first-name.ensures, c.upper-count.ensures) at c.in_err-runs.ensures.read))

@@ -22,18 +22,18 @@ loop-init c =
       runs_suffix = omega arith;
     }
 
-pub returns-in_err-behind-clause-read : goal.returns-in_err-behind-clause-read
-returns-in_err-behind-clause-read c =
+pub returns-in_err-following-clause-read : goal.returns-in_err-following-clause-read
+returns-in_err-following-clause-read c =
     let all = behind3 c.args.out.now.items (counted attribute_bytes)
     (attributes_from c.args.total c.args.count c.args.attributes.now c.args.runs.now) in
-    let p = err_from_is_err_and c.from_residual-in_err-behind.result
-    c.from_residual-in_err-behind.ensures.1 in
-    rw (p.1, p.2) (fails_through c.in_err-behind.field-0.0
+    let p = err_from_is_err_and c.from_residual-in_err-following.result
+    c.from_residual-in_err-following.ensures.1 in
+    rw (p.1, p.2) (fails_through c.in_err-following.field-0.0
     (behind3 c.loop.out.items attribute_bytes
     (attribute_at c.args.total c.loop.attributes.now c.loop.runs.now)) all
     (attributes_wrong c.args.total c.loop.out.items all c.loop.attributes.now c.loop.runs.now
     (c.args.count - c.loop.counter) c.loop.invariant.kept (omega (arith, c.loop-test.true)))
-    c.in_err-behind.ensures.read)
+    c.in_err-following.ensures.read)
 
 pub loop-preserved : goal.loop-preserved
 loop-preserved c = record {
@@ -41,11 +41,11 @@ loop-preserved c = record {
       (behind3 c.args.out.now.items (counted attribute_bytes)
       (attributes_from c.args.total c.args.count c.args.attributes.now c.args.runs.now))
       c.loop.attributes.now c.loop.runs.now c.spell_attribute.new.out.items
-      c.in_ok-behind.behind.now c.in_ok-behind.runs_behind.now
+      c.in_ok-following.following.now c.in_ok-following.runs_behind.now
       (c.args.count - c.loop.counter) (c.args.count - (c.loop.counter + 1)) c.loop.invariant.kept
-      (omega (arith, c.loop-test.true)) c.in_ok-behind.ensures.read;
-  suffix = omega (arith, c.loop.invariant.suffix, c.in_ok-behind.ensures.suffixes.0);
-  runs_suffix = omega (arith, c.loop.invariant.runs_suffix, c.in_ok-behind.ensures.suffixes.1);
+      (omega (arith, c.loop-test.true)) c.in_ok-following.ensures.read;
+  suffix = omega (arith, c.loop.invariant.suffix, c.in_ok-following.ensures.suffixes.0);
+  runs_suffix = omega (arith, c.loop.invariant.runs_suffix, c.in_ok-following.ensures.suffixes.1);
 }
 
 pub returns-clause-read : goal.returns-clause-read

@@ -1,7 +1,7 @@
 use Rattle.std.proofs.Common.{◌∙◌, ◌++◌, sym, ap}
 use Rattle.std.proofs.lemmas.Result.{err_from_is_err_and}
 use Rattle.cm_class.specs.Spelling.{u4}
-use Rattle.cm_record_reading.specs.Reading.{run_at, with_front, behind, content_bytes}
+use Rattle.cm_record_reading.specs.Reading.{run_at, with_front, appended, content_bytes}
 use Rattle.cm_record_reading.proofs.Counts.{content_spelled}
 use Rattle.cm_record_reading.proofs.Turns.{fails_through}
 use Rattle.cm_record_reading.proofs.spelling.spell_content.Goals as goal
@@ -16,7 +16,7 @@ returns-in_err-rest-clause-read c =
     c.from_residual-in_err-rest.ensures.1 in
     rw (p.1, p.2) (fails_through c.in_err-rest.field-0.0
     (with_front c.put_u32.new.out.items (run_at c.args.count c.args.runs.now))
-    (behind c.args.out.now.items (content_bytes c.args.name)
+    (appended c.args.out.now.items (content_bytes c.args.name)
     (run_at c.args.count c.args.runs.now)) (λ none. sym same ∙ none)
     c.in_err-rest.ensures.read)
 

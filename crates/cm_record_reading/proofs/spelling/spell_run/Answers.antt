@@ -8,14 +8,14 @@ use Rattle.cm_record_reading.proofs.Fronts.{run_ends, run_breaks, run_stops, beh
 use Rattle.cm_record_reading.proofs.Fronts.{with_front-append}
 use Rattle.cm_record_reading.proofs.spelling.spell_run.Goals as goal
 
--- the words behind the whole ones
+-- the words after the whole ones
 abbrev rest_of : ℕ → List ℕ → List ℕ
 rest_of count words = take (length words - count / 8) (drop (count / 8) words)
 
 abbrev found_so : List ℕ → List ℕ → Option (List ℕ × List ℕ)
 found_so bytes rest = Some (bytes, rest)
 
--- once the whole words are put, the end of the run is what is left
+-- once the whole words are appended, the end of the run is what is left
 ends : (count : ℕ) (words old whole new : List ℕ) → count / 8 ≤ length words → AreSmall words
     → whole ≡ take (count / 8 - 0) (drop 0 words) → new ≡ old ++ word_bytes whole
     → with_front old (run_at count words)

@@ -4,7 +4,7 @@ use Rattle.std.proofs.lemmas.Result.{err_from_is_err_and}
 use Rattle.cm_class.specs.Spelling.{heading, u2, slot_bytes, counted}
 use Rattle.cm_record_layout.specs.Layout.{head_class, head_counts, head_runs_at}
 use Rattle.cm_record_layout.specs.Packing.{first_of, second_of, third_of, fourth_of}
-use Rattle.cm_record_reading.specs.Reading.{slots_at, interfaces_from, pool_of, behind, behind3}
+use Rattle.cm_record_reading.specs.Reading.{slots_at, interfaces_from, pool_of, appended, behind3}
 use Rattle.cm_record_reading.specs.Reading.{pool_behind}
 use Rattle.cm_record_reading.proofs.Spelled.{slots_none, interfaces_none, pool_made}
 use Rattle.cm_record_reading.proofs.Turns.{fails_through}
@@ -39,7 +39,7 @@ returns-in_err-main-2-clause-read c =
     let p = err_from_is_err_and c.from_residual-in_err-main-2.result
     c.from_residual-in_err-main-2.ensures.1 in
     rw (p.1, p.2) (fails_through c.in_err-main-2.field-0.0
-    (behind c.put_u16-4.new.out.items (counted u2)
+    (appended c.put_u16-4.new.out.items (counted u2)
     (interfaces_from (fourth_of (head_class words)) c.in_ok-main.main.now))
     (pool_behind out words (pool_of words))
     (interfaces_none words out c.put_u16.new.out.items c.requires.slots begun

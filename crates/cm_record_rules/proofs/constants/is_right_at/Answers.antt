@@ -1,7 +1,7 @@
 use Rattle.std.proofs.Common.{◌≡◌, ◌∙◌, Some, ap, sym, true}
 use Rattle.std.specs.Option.{option_map_or}
 use Rattle.cm_class.specs.Names.{constant_named}
-use Rattle.cm_names.specs.Forms.{has_utf8_form}
+use Rattle.cm_descriptors.specs.Forms.{has_utf8_form}
 use Rattle.cm_record_rules.specs.Judged.{constant_is_right}
 use Rattle.cm_record_rules.proofs.Slots.{form_alone, other_alone}
 use Rattle.cm_record_rules.proofs.Tags.{tag_at_index, tag_named}

@@ -3,28 +3,28 @@ use Rattle.std.proofs.Common.{List, ℕ}
 use Rattle.std.proofs.Common.{length-append}
 use Rattle.std.proofs.lemmas.List.{take_at, drop_at}
 use Rattle.cm_class.specs.declared.class_file.ClassFile.{ClassFile}
-use Rattle.cm_names.specs.declared.judgement.Judgement.{Judgement}
+use Rattle.cm_descriptors.specs.declared.judgement.Judgement.{Judgement}
 use Rattle.cm_record_layout.specs.Packing.{word_bytes}
 use Rattle.cm_rules.specs.Fault.{fault}
 use Rattle.cm_record_rules.specs.Judged.{AreJudged}
-use Rattle.cm_record_rules.specs.Laid.{class_in, tags_of}
+use Rattle.cm_record_rules.specs.Laid.{laid_class, tags_of}
 use Rattle.cm_record_rules.proofs.Filled.{length-word_bytes}
 use Rattle.cm_record_rules.proofs.Whole.{class_in_is}
 use Rattle.cm_record_rules.proofs.judge.judge_words.Goals as goal
 
--- the two parts of what the scratch has
+-- the two parts of the content of the scratch
 front_is : (words all front : List ℕ) → front ≡ take (8 * length words) all
-    → all ≡ word_bytes words ++ tags_of (class_in words) → front ≡ word_bytes words
+    → all ≡ word_bytes words ++ tags_of (laid_class words) → front ≡ word_bytes words
 front_is words all front taken filled =
     taken ∙ (ap (take (8 * length words)) filled
-    ∙ take_at (word_bytes words) (tags_of (class_in words)) (8 * length words)
+    ∙ take_at (word_bytes words) (tags_of (laid_class words)) (8 * length words)
     (length-word_bytes words))
 
 back_is : (words all back : List ℕ) → back ≡ drop (8 * length words) all
-    → all ≡ word_bytes words ++ tags_of (class_in words) → back ≡ tags_of (class_in words)
+    → all ≡ word_bytes words ++ tags_of (laid_class words) → back ≡ tags_of (laid_class words)
 back_is words all back dropped filled =
     dropped ∙ (ap (drop (8 * length words)) filled
-    ∙ drop_at (word_bytes words) (tags_of (class_in words)) (8 * length words)
+    ∙ drop_at (word_bytes words) (tags_of (laid_class words)) (8 * length words)
     (length-word_bytes words))
 
 pub split_at-requires : goal.split_at-requires
@@ -34,7 +34,7 @@ split_at-requires c =
     omega (
       arith,
       all,
-      length-append (word_bytes words) (tags_of (class_in words)),
+      length-append (word_bytes words) (tags_of (laid_class words)),
       length-word_bytes words,
     )
 
@@ -61,7 +61,7 @@ judged-requires-clause-tags c =
 pub judged-requires-clause-table : goal.judged-requires-clause-table
 judged-requires-clause-table c =
     let found = c.in-Ok-judgements.ensures {u = tt} in
-    subst (λ (t : List Judgement). AreJudged (class_in c.args.words.now) t)
+    subst (λ (t : List Judgement). AreJudged (laid_class c.args.words.now) t)
     (sym c.deref-in-Ok-judgements.ensures.value)
     (subst (λ (d : ClassFile). AreJudged d c.in-Ok-judgements.table.items) c.new.ensures found)
 

@@ -1,7 +1,7 @@
 use Rattle.std.proofs.Common.{◌≡◌, ◌-◌, ◌++◌, ◌∷◌, [], false, ◌∙◌, ap, take, drop, get_or}
 use Rattle.std.proofs.Common.{append_assoc}
 use Rattle.cm_record_layout.specs.Packing.{word_bytes, first_of}
-use Rattle.cm_record_rules.specs.Laid.{tags_from, class_in}
+use Rattle.cm_record_rules.specs.Laid.{tags_from, laid_class}
 use Rattle.cm_record_rules.proofs.Whole.{class_in_is_of, tags_are}
 use Rattle.cm_record_rules.proofs.scratch.fill.Goals as goal
 
@@ -21,4 +21,4 @@ returns c =
     ∙ (append_assoc (word_bytes words) (0 ∷ [])
     (tags_from false (take (first_of (get_or words 2 0) - 1) (drop 9 words)))
     ∙ ap (λ ts. word_bytes words ++ ts)
-    (tags_are (class_in words) words (class_in_is_of words c.requires))))
+    (tags_are (laid_class words) words (class_in_is_of words c.requires))))

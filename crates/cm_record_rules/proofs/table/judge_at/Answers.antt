@@ -1,5 +1,5 @@
 use Rattle.std.proofs.Common.{◌∙◌, ap}
-use Rattle.cm_names.specs.Judgement.{judgement}
+use Rattle.cm_descriptors.specs.Judgement.{judgement}
 use Rattle.cm_record_rules.proofs.Whole.{no_utf8}
 use Rattle.cm_record_rules.proofs.table.judge_at.Goals as goal
 

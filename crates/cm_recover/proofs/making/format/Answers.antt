@@ -1,6 +1,6 @@
 use Rattle.std.proofs.Common.{◌∙◌, ap, subst, sym, rules, refl}
 use Rattle.std.specs.Prelude.{Ok}
-use Rattle.cm_guards.proofs.{settled_images}
+use Rattle.cm_guards.proofs.{durable_images}
 use Rattle.cm_recover.specs.NewFile.{new_bytes, IsEmptyCache}
 use Rattle.cm_recover.proofs.Empty.{new_is_empty}
 use Rattle.cm_recover.proofs.Unfinished.{calls_on, ends_asked, ends_unstored, passes_shut}
@@ -10,7 +10,7 @@ pub returns-clause-empty : goal.returns-clause-empty
 returns-clause-empty g c =
     let file = c.in_ok-file.ensures in
     let bytes = c.in_ok-open.ensures.written ∙ ap new_bytes file.geometry in
-    settled_images (IsEmptyCache c.args.geometry) (g.D.Disk.view.contents c.open.new.disk)
+    durable_images (IsEmptyCache c.args.geometry) (g.D.Disk.view.contents c.open.new.disk)
     (g.D.Disk.view.unsynced c.open.new.disk) c.in_ok-open.ensures.stored
     (subst (IsEmptyCache c.args.geometry) (sym bytes) (new_is_empty c.args.geometry file.lawful))
 
@@ -56,7 +56,7 @@ returns-in_err-open-clause-moments g c =
     c.in_ok-len.was c.len.ensures.called c.store.ensures.calls)
     c.open.ensures.calls c.in_ok-file.ensures.geometry c.len.ensures.looks.kept
     c.len.ensures.looks.time
-    c.store.ensures.any_moment c.in_ok-store.ensures.written c.in_ok-store.ensures.settled
+    c.store.ensures.any_moment c.in_ok-store.ensures.written c.in_ok-store.ensures.durable
     c.open.ensures.any_moment
 
 pub returns-clause-moments : goal.returns-clause-moments
@@ -69,5 +69,5 @@ returns-clause-moments g c =
     c.in_ok-len.was c.len.ensures.called c.store.ensures.calls)
     c.open.ensures.calls c.in_ok-file.ensures.geometry c.len.ensures.looks.kept
     c.len.ensures.looks.time
-    c.store.ensures.any_moment c.in_ok-store.ensures.written c.in_ok-store.ensures.settled
+    c.store.ensures.any_moment c.in_ok-store.ensures.written c.in_ok-store.ensures.durable
     c.open.ensures.any_moment

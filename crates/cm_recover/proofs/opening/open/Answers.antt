@@ -32,13 +32,13 @@ new-requires-clause-sizes g c =
     sizes_told c.found_is_live.ensures c.found_is_framed.ensures.framed
     c.verdict_is_exact.ensures.stands c.words_tell_name.ensures c.others_are_told.ensures
     (view.contents c.args.disk) c.in-Ok.file c.in-Ok.ensures.standing
-    c.in-Ok-move_over.journal
+    c.in-Ok-upgrade.journal
     (journal_same (view.contents c.read_synced.new.disk) (view.contents c.args.disk)
     c.in-Ok.ensures.run.contents_stay c.in-Ok.file c.in-Ok.ensures.standing
-    c.in-Ok-move_over.journal c.in-Ok-move_over.ensures.journal)
+    c.in-Ok-upgrade.journal c.in-Ok-upgrade.ensures.journal)
 
 pub new-requires-clause-held : goal.new-requires-clause-held
-new-requires-clause-held g c = c.in-Ok-move_over.ensures.held
+new-requires-clause-held g c = c.in-Ok-upgrade.ensures.held
 
 pub returns-in-Ok-new-clause-opened : goal.returns-in-Ok-new-clause-opened
 returns-in-Ok-new-clause-opened g c =
@@ -46,11 +46,11 @@ returns-in-Ok-new-clause-opened g c =
     opens c.found_is_live.ensures c.found_is_framed.ensures.framed
     c.verdict_is_exact.ensures.stands c.words_tell_name.ensures c.others_are_told.ensures
     (view.contents c.args.disk) c.in-Ok.file c.in-Ok.ensures.standing
-    c.arenas_are_of_rows.ensures c.move_over.new.disk c.in-Ok-restore.front c.in-Ok-new.committer
-    c.in-Ok-move_over.journal c.invariant_holds.ensures c.in-Ok-restore.ensures
+    c.arenas_are_of_rows.ensures c.upgrade.new.disk c.in-Ok-restore.front c.in-Ok-new.committer
+    c.in-Ok-upgrade.journal c.invariant_holds.ensures c.in-Ok-restore.ensures
     (journal_same (view.contents c.read_synced.new.disk) (view.contents c.args.disk)
     c.in-Ok.ensures.run.contents_stay c.in-Ok.file c.in-Ok.ensures.standing
-    c.in-Ok-move_over.journal c.in-Ok-move_over.ensures.journal)
+    c.in-Ok-upgrade.journal c.in-Ok-upgrade.ensures.journal)
     c.in-Ok-new.ensures.made
 
 pub returns-in-Ok-new-clause-same : goal.returns-in-Ok-new-clause-same
@@ -69,32 +69,32 @@ returns-in-Ok-new-clause-newest g c =
     c.versions.ensures.each (view.contents disk)
     (contents_are_image (view.contents disk) (view.unsynced disk) (g.met.D.Disk.sound disk))
 
-pub returns-in-Err-move_over-clause-run : goal.returns-in-Err-move_over-clause-run
-returns-in-Err-move_over-clause-run g c =
-    let moved = c.in-Err-move_over.ensures in
-    then_through g.D.Disk.view c.args.disk c.read_synced.new.disk c.move_over.new.disk
-    c.move_over.new.disk _ _ _ (ok_no_fault _ _ open_fault.Device refl) c.in-Ok.ensures.run
+pub returns-in-Err-upgrade-clause-run : goal.returns-in-Err-upgrade-clause-run
+returns-in-Err-upgrade-clause-run g c =
+    let moved = c.in-Err-upgrade.ensures in
+    then_through g.D.Disk.view c.args.disk c.read_synced.new.disk c.upgrade.new.disk
+    c.upgrade.new.disk _ _ _ (ok_no_fault _ _ open_fault.Device refl) c.in-Ok.ensures.run
     moved.no_call moved.images moved.cause refl (λ e. cc) (λ e. cc)
 
 pub returns-in_default-clause-run : goal.returns-in_default-clause-run
 returns-in_default-clause-run g c =
-    let moved = c.in-Ok-move_over.ensures in
-    then_through g.D.Disk.view c.args.disk c.read_synced.new.disk c.move_over.new.disk
-    c.move_over.new.disk _ _ _ (ok_no_fault _ _ open_fault.Device refl) c.in-Ok.ensures.run
+    let moved = c.in-Ok-upgrade.ensures in
+    then_through g.D.Disk.view c.args.disk c.read_synced.new.disk c.upgrade.new.disk
+    c.upgrade.new.disk _ _ _ (ok_no_fault _ _ open_fault.Device refl) c.in-Ok.ensures.run
     moved.no_call moved.images moved.cause refl (λ e. absurd (cc)) (λ e. absurd (cc))
 
 pub returns-in-Err-new-clause-run : goal.returns-in-Err-new-clause-run
 returns-in-Err-new-clause-run g c =
-    let moved = c.in-Ok-move_over.ensures in
-    then_through g.D.Disk.view c.args.disk c.read_synced.new.disk c.move_over.new.disk
+    let moved = c.in-Ok-upgrade.ensures in
+    then_through g.D.Disk.view c.args.disk c.read_synced.new.disk c.upgrade.new.disk
     c.in-Err-new.field-0.disk _ _ (open_fault.NoMemory ≡ open_fault.Device)
     (ok_no_fault _ _ open_fault.Device refl) c.in-Ok.ensures.run moved.no_call moved.images
     moved.cause c.in-Err-new.ensures.not_made (λ e. absurd (cc)) (λ e. absurd (cc))
 
 pub returns-in-Ok-new-clause-run : goal.returns-in-Ok-new-clause-run
 returns-in-Ok-new-clause-run g c =
-    let moved = c.in-Ok-move_over.ensures in
-    then_through g.D.Disk.view c.args.disk c.read_synced.new.disk c.move_over.new.disk
+    let moved = c.in-Ok-upgrade.ensures in
+    then_through g.D.Disk.view c.args.disk c.read_synced.new.disk c.upgrade.new.disk
     c.in-Ok-new.committer.disk _ _ ⊥ (ok_no_fault _ _ open_fault.Device refl) c.in-Ok.ensures.run
     moved.no_call moved.images moved.cause
     (ap (λ (s : CommitterState _). s.disk) c.in-Ok-new.ensures.made) (λ e. absurd (cc))

@@ -6,7 +6,7 @@ use Rattle.cm_commit.specs.GroupPlans.{whole_roots}
 use Rattle.cm_verdict.specs.declared.defined_at.DefinedAt.{DefinedAt}
 use Rattle.cm_verdict.specs.Verdict.{verdict}
 use Rattle.cm_recover.specs.Opening.{IsFaultIn, found_of}
-use Rattle.cm_recover.specs.Standing.{Tells, AreRecorded, IsStanding}
+use Rattle.cm_recover.specs.Standing.{ReportsOk, AreRecorded, IsStanding}
 use Rattle.cm_recover.proofs.Verdicts.{fault_told, no_found, no_classes}
 use Rattle.cm_recover.proofs.Assembled.{assembled, same_classes}
 use Rattle.cm_guards.proofs.{one_read}
@@ -50,7 +50,7 @@ returns-clause-standing g c =
     let rows = c.in_ok-rows.rows in
     let now = c.len.ensures.looks.same ∙ c.in_ok-found.ensures.reads.contents_stay in
     assembled contents _ f rows c.in_ok-found.ensures.found
-    (subst (λ r. Tells (AreRecorded f.sizes) r rows)
+    (subst (λ r. ReportsOk (AreRecorded f.sizes) r rows)
     (same_classes f.sizes (g.D.Disk.view.contents c.len.new.self) contents c.into_book.result.rows
     f.rows now c.into_book.ensures) c.in_ok-rows.ensures.classes)
     (record {

@@ -4,17 +4,17 @@ use Rattle.std.proofs.lemmas.Option.{slice_get_within, get_or_from_slice_get}
 use Rattle.cm_index.specs.declared.slot.BookSlot.{BookSlot}
 use Rattle.cm_layout.specs.declared.row.Row.{Row}
 use Rattle.cm_layout.specs.Rows.{kept_on}
-use Rattle.cm_rows.specs.Links.{GoesBack, places_left, is_on, rows_to}
+use Rattle.cm_rows.specs.Links.{LinksBack, places_left, is_on, rows_to}
 use Rattle.cm_rows.proofs.Backward.{Next, next-row, passes, comes-back, comes-from, before-less}
 use Rattle.cm_rows.proofs.last_kept.newest_on.Goals as goal
 use Rattle.cm_rows.proofs.last_kept.newest_on.Given.{Over}
 use Rattle.cm_rows.proofs.last_kept.newest_on.Goals.{In-Some}
 
 abbrev walk : (g : Over) (c : In-Some g)
-    → GoesBack c.args.slots.now c.args.before.now c.args.last.chunk (Some c.in-Some.place)
+    → LinksBack c.args.slots.now c.args.before.now c.args.last.chunk (Some c.in-Some.place)
     c.args.last.used
 walk g c =
-    subst (λ (o : Option _). GoesBack c.args.slots.now c.args.before.now c.args.last.chunk o
+    subst (λ (o : Option _). LinksBack c.args.slots.now c.args.before.now c.args.last.chunk o
     c.args.last.used) c.in-Some.is c.loop-next.invariant.goes
 
 abbrev row : (g : Over) (c : In-Some g)
@@ -39,7 +39,7 @@ offset_bounds-slots-at g c =
           (row g (goal.at.offset_bounds-slots-at g c).In-Some).there,
     )
 
--- what the test says of the row
+-- what the test says about the row
 tested : (g : Over) (c : In-Some g) (d : BookSlot (Row g.row.P.Denot)) (b t : Bool)
     → b ≡ is_on c.args.last.chunk (get_or c.args.slots.now c.in-Some.place d).item → b ≡ t
     → is_on c.args.last.chunk (row g c).row ≡ t

@@ -1,12 +1,12 @@
 use Rattle.std.proofs.Common.{◌≡◌}
 use Rattle.cm_layout.specs.Rows.{kept_on}
-use Rattle.cm_rows.specs.Links.{GoesBack, rows_to, places_left}
+use Rattle.cm_rows.specs.Links.{LinksBack, rows_to, places_left}
 use Rattle.cm_rows.proofs.last_kept.newest_on.Given as goal
 
 abbrev pub invariant-loop-next : goal.invariant-loop-next
 invariant-loop-next g l =
     record {
-      goes : GoesBack l.slots l.before l.last.chunk l.next l.last.used;
+      goes : LinksBack l.slots l.before l.last.chunk l.next l.last.used;
       kept : kept_on l.last.chunk (rows_to l.fn.from l.slots)
           ≡ kept_on l.last.chunk (rows_to l.next l.slots);
     }

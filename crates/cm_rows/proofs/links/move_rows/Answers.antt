@@ -5,7 +5,7 @@ use Rattle.cm_index.specs.declared.slot.BookSlot.{BookSlot}
 use Rattle.cm_index.specs.Living.{moved_slot}
 use Rattle.cm_layout.specs.declared.row.Row.{Row}
 use Rattle.cm_layout.specs.Rows.{moved_row}
-use Rattle.cm_rows.specs.Links.{GoesBack, places_left, words_on}
+use Rattle.cm_rows.specs.Links.{LinksBack, places_left, words_on}
 use Rattle.cm_rows.proofs.Backward.{next-row}
 use Rattle.cm_rows.proofs.Linking.{place-less}
 use Rattle.cm_rows.proofs.Moving.{MovesOn, ComesTo, walk-begins, comes-to, next-before}
@@ -23,10 +23,10 @@ walk g c =
     c.args.slots.now.items c.loop-next.slots.items o) c.in-Some.is c.loop-next.invariant.moves
 
 abbrev back : (g : Over) (c : In-Some g)
-    → GoesBack c.args.slots.now.items c.args.before.now c.args.last.chunk (Some c.in-Some.place)
+    → LinksBack c.args.slots.now.items c.args.before.now c.args.last.chunk (Some c.in-Some.place)
     c.loop-next.left
 back g c =
-    subst (λ (o : Option ℕ). GoesBack c.args.slots.now.items c.args.before.now c.args.last.chunk o
+    subst (λ (o : Option ℕ). LinksBack c.args.slots.now.items c.args.before.now c.args.last.chunk o
     c.loop-next.left) c.in-Some.is c.loop-next.invariant.goes
 
 abbrev here : (g : Over) (c : In-Some g)
@@ -82,7 +82,7 @@ returns-clause-slots g c =
     (subst (λ (o : Option ℕ). MovesOn c.args.loader c.args.last.chunk c.args.to old now o)
     c.in_default.is c.loop-next.invariant.moves)
 
--- the row that the walk comes to stands where the other walk comes to
+-- the row that the walk visits is the one that the other walk visits
 same-row : (g : Over) (c : In-Some g) → (here g c).slot
     ≡ record {
       item = (next-row c.args.slots.now.items c.args.before.now c.args.last.chunk c.in-Some.place
@@ -152,7 +152,7 @@ loop-next-preserved g c =
             live = r.live;
           }) (sym lives)
           ∙ ap (moved_slot from to) same);
-      goes = subst (λ (n : ℕ). GoesBack old c.args.before.now from
+      goes = subst (λ (n : ℕ). LinksBack old c.args.before.now from
           (get_or c.args.before.now c.in-Some.place None) (c.loop-next.left - n)) (sym words)
           (goes-back old c.args.before.now from c.in-Some.place c.loop-next.left (back g step));
       capacity = c.loop-next.invariant.capacity;

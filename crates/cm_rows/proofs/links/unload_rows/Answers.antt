@@ -7,7 +7,7 @@ use Rattle.cm_rows.specs.Links.{ended, last_place, places_left, AreLinked}
 use Rattle.cm_pool.specs.Geometry.{Sizes}
 use Rattle.cm_layout.specs.Rows.{classes_in, slots_of_row, slots_of_rows}
 use Rattle.cm_layout.proofs.{slots-within}
-use Rattle.cm_rows.specs.Held.{Holds, first_chunks}
+use Rattle.cm_rows.specs.Held.{PoolHolds, first_chunks}
 use Rattle.cm_rows.proofs.Ending.{fewer-ended, less-ended}
 use Rattle.cm_rows.proofs.Linking.{StandsLast, stands-last, place-ended, linked-ended, none-place}
 use Rattle.cm_rows.proofs.Linking.{unloaded-ended, last-before, place-less}
@@ -143,7 +143,7 @@ loop-next-preserved g c =
           (linked-ended u slots c.args.before.now i (ended e.at.slot) h.linked is refl);
       next = last-before u slots c.args.before.now i h.linked is
           ∙ sym (ap (last_place u) e.items ∙ place-ended u slots i (ended e.at.slot) is refl);
-      holds = subst (λ (sizes : Sizes). Holds sizes c.end_row-taken.new.pool
+      holds = subst (λ (sizes : Sizes). PoolHolds sizes c.end_row-taken.new.pool
           (first_chunks (classes_in (living c.end_row-taken.new.slots.items)))) h.holds.geometry
           c.end_row-taken.ensures.holds;
       rows = omega (arith, e.fewer, h.rows);

@@ -1,5 +1,5 @@
 use Rattle.std.proofs.Common.{◌≡◌, ℕ, ◌-◌, [], take, Some, sym, ap, subst, arith}
-use Rattle.cm_machine.specs.Machine.{Base, Holds}
+use Rattle.cm_commands.specs.Machine.{Base, Holds}
 use Rattle.cm_session.proofs.laws.held_cache_begins_machine.Goals as goal
 
 pub returns : goal.returns

@@ -3,8 +3,8 @@ use Rattle.cm_group.specs.Groups.{Handed}
 use Rattle.cm_pool.specs.Geometry.{Sizes}
 use Rattle.cm_state.specs.Stands.{Stands}
 use Rattle.cm_verdict.specs.Verdict.{state_in, arenas_in}
-use Rattle.cm_machine.specs.Machine.{Base, Machine, machine_from}
-use Rattle.cm_session.specs.Moves.{Leads, Reopening}
+use Rattle.cm_commands.specs.Machine.{Base, Machine, machine_from}
+use Rattle.cm_session.specs.Moves.{ReachesMachine, Reopening}
 use Rattle.cm_session.specs.Session.{IsSession}
 use Rattle.cm_session.proofs.Reopened.{reopened, same_sizes, is_outside, fresh}
 use Rattle.cm_session.proofs.opening.open.Goals as goal
@@ -29,16 +29,16 @@ returns-clause-opened g c =
     let on = c.committed_rows_are_the_machines.ensures.opened in
     let is = c.invariant_holds.ensures in
     record {
-      leads = subst (λ (q : List Handed). Leads (Reopening sizes k bytes)
+      reaches = subst (λ (q : List Handed). ReachesMachine (Reopening sizes k bytes)
           (λ j. IsSession j front committer q c.number-sealed.result false))
           (sym c.in-Ok.ensures)
-          (subst (λ (n : ℕ). Leads (Reopening sizes k bytes)
+          (subst (λ (n : ℕ). ReachesMachine (Reopening sizes k bytes)
           (λ j. IsSession j front committer [] n false)) (sym c.number-sealed.ensures)
           (reopened one live framed stands c.words_tell_name.ensures c.opened_is_ahead.ensures on
           sizes k bytes some front committer opens is));
       sizes_are = same_sizes one live framed stands c.words_tell_name.ensures
           c.opened_is_ahead.ensures on sizes k bytes some front committer opens is;
-      settled = c.in-Ok-open.ensures.stored;
+      durable = c.in-Ok-open.ensures.stored;
     }
 
 pub returns-clause-begins : goal.returns-clause-begins
@@ -58,7 +58,7 @@ returns-clause-begins g c =
       arenas = arenas;
       stands = subst (λ (z : Sizes). Stands z bytes state arenas number) (sym o.sizes_are)
           opens.stands;
-      goes = subst (λ (j : Machine). IsSession j c.in-Ok-open.opened.0 c.in-Ok-open.opened.1
-          c.in-Ok.queue.groups.items c.number-sealed.result false) (fresh base o.leads.does.number
-          o.leads.next o.leads.does.reopens) o.leads.goes;
+      matches = subst (λ (j : Machine). IsSession j c.in-Ok-open.opened.0 c.in-Ok-open.opened.1
+          c.in-Ok.queue.groups.items c.number-sealed.result false) (fresh base o.reaches.does.number
+          o.reaches.next o.reaches.does.reopens) o.reaches.matches;
     }

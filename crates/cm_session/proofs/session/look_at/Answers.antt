@@ -1,7 +1,7 @@
 use Rattle.std.proofs.Common.{List, ℕ, ◌≤◌, length, refl, subst, sym, ◌∙◌}
 use Rattle.cm_record.specs.Layout.{limit}
-use Rattle.cm_prepare.specs.declared.command.Command.{Command}
-use Rattle.cm_prepare.specs.Commands.{change_asked}
+use Rattle.cm_commands.specs.declared.command.Command.{Command}
+use Rattle.cm_commands.specs.Commands.{change_asked}
 use Rattle.cm_state.specs.Step.{AddLoader, Unload, Tighten, UnloadAll}
 use Rattle.cm_session.specs.Moves.{IsAsked}
 use Rattle.cm_session.proofs.Commands.{is_asked}

@@ -6,7 +6,7 @@ use Rattle.cm_pool.specs.Chunks.{IsChunk}
 use Rattle.cm_pool.specs.Geometry.{Sizes}
 use Rattle.cm_pool.specs.FreeSpace.{FreeSpace, IsFreeChunk, without}
 use Rattle.cm_pool.specs.Held.{AreHeld}
-use Rattle.cm_arena.specs.Chains.{chunks_of}
+use Rattle.cm_arena.specs.Chains.{chain_chunks}
 use Rattle.cm_space.specs.Adopting.{reaching}
 use Rattle.cm_space.proofs.Rooted.{reaching-held, way-all}
 use Rattle.cm_space.proofs.Adopted.{IsAtFront, free-adoptable, new-adoptable, front-iff, front-left}
@@ -39,13 +39,13 @@ returns-in_err-add_roots-clause-memory c =
 pub adopt_front-requires-clause-held : goal.adopt_front-requires-clause-held
 adopt_front-requires-clause-held c = (
   c.requires.0,
-  subst (λ (p : FreeSpace). AreHeld p (chunks_of c.args.arena.now ++ c.requires.0))
+  subst (λ (p : FreeSpace). AreHeld p (chain_chunks c.args.arena.now ++ c.requires.0))
       (sym c.in_ok-add_roots.ensures.ok)
       (reaching-held c.args.pool.now c.args.place.chunk.root
-      (chunks_of c.args.arena.now ++ c.requires.0) c.requires.1),
+      (chain_chunks c.args.arena.now ++ c.requires.0) c.requires.1),
 )
 
--- the chunk is free where it was once its root was present
+-- the chunk is free if it was free once its root was present
 free : (c : After-adopt_front) (taken : Bool)
     → (IsTrue taken ↔ IsFreeChunk c.add_roots.new.pool c.args.place.chunk)
     → (IsTrue taken ↔ IsFreeChunk (reaching c.args.pool.now c.args.place.chunk.root)

@@ -1,6 +1,6 @@
 use Rattle.std.proofs.Common.{ℕ, List, ◌∙◌, ap, sym, arith}
 use Rattle.std.proofs.lemmas.List.{drop_all}
-use Rattle.cm_space.specs.Space.{left_by_all, state_of}
+use Rattle.cm_space.specs.Space.{left_by_all, space_state}
 use Rattle.cm_space.proofs.InTurn.{next-turn, next-left}
 use Rattle.cm_space.proofs.leaving.leave_each.Goals as goal
 
@@ -24,6 +24,6 @@ pub returns : goal.returns
 returns c p =
     let us : List ℕ = c.args.loaders.now in
     ap (λ (vs : List ℕ). left_by_all
-    (state_of p c.loop-loader.arenas.entries c.loop-loader.waiting.items) c.args.number vs)
+    (space_state p c.loop-loader.arenas.entries c.loop-loader.waiting.items) c.args.number vs)
     (sym (drop_all c.loop-loader.loader-index us c.loop-loader-test.false))
     ∙ c.loop-loader.invariant.leaving.sofar p

@@ -2,7 +2,7 @@ use Rattle.std.proofs.Common.{◌≡◌, ◌≤◌, ◌++◌, length, map}
 use Rattle.cm_stream.specs.Stream.{stream_of, AllFit}
 use Rattle.cm_stream.proofs.stream.split.Given as goal
 
--- the classes so far, and the rest
+-- the classes so far, and the bytes that are left
 abbrev pub invariant-loop-rest : goal.invariant-loop-rest
 invariant-loop-rest l =
     record {

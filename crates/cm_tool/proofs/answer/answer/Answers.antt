@@ -10,19 +10,19 @@ use Rattle.cm_tool.proofs.answer.answer.Goals as goal
 
 pub returns-in-Some-clause-machine : goal.returns-in-Some-clause-machine
 returns-in-Some-clause-machine g c =
-    subst (λ q. Serves g.D.Disk.view (option_map seen q) c.answer_question.result
-    c.args.session.now c.answer_question.new.session) (sym c.in-Some.is)
-    c.answer_question.ensures.machine
+    subst (λ q. Serves g.D.Disk.view (option_map seen q) c.answer_request.result
+    c.args.session.now c.answer_request.new.session) (sym c.in-Some.is)
+    c.answer_request.ensures.machine
 
 pub returns-in-None-clause-machine : goal.returns-in-None-clause-machine
 returns-in-None-clause-machine g c =
     let s = c.args.session.now in
     let f = g.D.Disk.view.failures s.committer.disk in
     let sizes = s.committer.sizes in
-    λ k goes ready.
+    λ k matches ready.
     stays k f
-    (replies_same sizes (option_map seen c.args.question) k f bad_line_reply c.bad_line.result ready
+    (replies_same sizes (option_map seen c.args.request) k f bad_line_reply c.bad_line.result ready
     c.bad_line.ensures
     (subst (λ q. AnswersAsked sizes (option_map seen q) (served k f) bad_line_reply (served k f))
     (sym c.in-None.is) (refl, refl)))
-    (still g.D.Disk.view k s goes)
+    (still g.D.Disk.view k s matches)

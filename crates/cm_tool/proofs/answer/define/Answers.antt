@@ -16,9 +16,9 @@ pub returns-then-is_memory-clause-machine : goal.returns-then-is_memory-clause-m
 returns-then-is_memory-clause-machine g c =
     let s = c.args.session.now in
     let disk = g.D.Disk in
-    λ k goes ready.
+    λ k matches ready.
     stays k (disk.view.failures s.committer.disk) (inl refl)
-    (still disk.view k s goes)
+    (still disk.view k s matches)
 
 pub returns-else-is_memory-clause-machine : goal.returns-else-is_memory-clause-machine
 returns-else-is_memory-clause-machine g c =
@@ -27,11 +27,11 @@ returns-else-is_memory-clause-machine g c =
     let sizes = s.committer.sizes in
     let loader = c.args.loader.now in
     let digits = c.args.digits.now in
-    λ k goes ready.
+    λ k matches ready.
     stays k f
     (replies_same sizes (Some (AsksDefine loader digits)) k f bad_line_reply c.bad_line.result ready
     c.bad_line.ensures
     (answers_bad_digits sizes loader digits c.in-Err.fault (served k f)
     (not_memory digits c.in-Err.fault c.is_memory.result c.is_memory.ensures.whenever
     c.if-is_memory.false c.in-Err.ensures.err)))
-    (still g.D.Disk.view k s goes)
+    (still g.D.Disk.view k s matches)

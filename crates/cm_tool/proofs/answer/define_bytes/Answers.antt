@@ -18,10 +18,10 @@ returns-in-Err-clause-machine g c =
     let sizes = s.committer.sizes in
     let loader = c.args.loader.now in
     let refusal = c.in-Err.refusal in
-    λ digits decoded k goes ready.
+    λ digits decoded k matches ready.
     stays k f
     (replies_same sizes (Some (AsksDefine loader digits)) k f (refusal_reply refusal)
     c.refused.result ready c.refused.ensures
     (answers_fault sizes loader digits c.args.bytes.now refusal (served k f) decoded
     c.in-Err.ensures.refused))
-    (still g.D.Disk.view k s goes)
+    (still g.D.Disk.view k s matches)

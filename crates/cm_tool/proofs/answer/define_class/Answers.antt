@@ -15,7 +15,7 @@ returns-clause-machine g c =
     let call = c.store-stored in
     let disk = g.D.Disk in
     let name = c.deref.result.now in
-    λ digits bytes class decoded right laid k goes ready.
+    λ digits bytes class decoded right laid k matches ready.
     let name_is = c.deref.ensures.value ∙ c.in-Ok.ensures in
     command_replies disk.view (Some (AsksDefine loader digits))
     (λ n. defined_reply n name) k (Define loader words) (disk.view.failures s.committer.disk)
@@ -24,7 +24,7 @@ returns-clause-machine g c =
     (define_fits c.layout_determines_class.ensures s.committer.sizes loader digits bytes words name
     class decoded right laid
     (λ short. name_is ∙ class_named bytes words class c.words_tell_name.ensures right laid short))
-    (call.ensures.machine k goes ready.rest) (call.ensures.cause k goes ready.rest)
+    (call.ensures.machine k matches ready.rest) (call.ensures.cause k matches ready.rest)
     (λ none. ap (λ (x : CommitterState _). disk.view.failures x.disk) (call.ensures.no_call none))
     call.ensures.no_call c.tell_class.ensures
 
@@ -32,6 +32,6 @@ pub returns-in-Err-clause-machine : goal.returns-in-Err-clause-machine
 returns-in-Err-clause-machine g c =
     let s = c.args.session.now in
     let disk = g.D.Disk in
-    λ digits bytes class decoded right laid k goes ready.
+    λ digits bytes class decoded right laid k matches ready.
     stays k (disk.view.failures s.committer.disk) (inl refl)
-    (still disk.view k s goes)
+    (still disk.view k s matches)

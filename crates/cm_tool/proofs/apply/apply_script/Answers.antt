@@ -1,6 +1,6 @@
 use Rattle.std.proofs.Common.{refl, subst}
 use Rattle.cm_guards.specs.Calls.{LeavesOnly}
-use Rattle.cm_machine.specs.Machine.{machine_from}
+use Rattle.cm_commands.specs.Machine.{machine_from}
 use Rattle.cm_lines.specs.Streams.{io}
 use Rattle.cm_tool.specs.Answers.{served, pause}
 use Rattle.cm_tool.specs.Runs.{IsRun}
@@ -12,7 +12,7 @@ returns-in-Ok-default-clause-ok g c =
     let s = c.in-Ok.session in
     let begins = c.in-Ok.ensures.begins in
     let opened = g.D.Disk.view.failures s.committer.disk in
-    let run = c.run_to_end.ensures (machine_from begins.base) begins.goes
+    let run = c.run_to_end.ensures (machine_from begins.base) begins.matches
     (ready_from begins.base) in
     record {
       sizes = s.committer.sizes;
@@ -40,7 +40,7 @@ returns-in-Err-default-clause-err g c =
     let s = c.in-Ok.session in
     let begins = c.in-Ok.ensures.begins in
     let opened = g.D.Disk.view.failures s.committer.disk in
-    let run = c.run_to_end.ensures (machine_from begins.base) begins.goes
+    let run = c.run_to_end.ensures (machine_from begins.base) begins.matches
     (ready_from begins.base) in
     record {
       sizes = s.committer.sizes;

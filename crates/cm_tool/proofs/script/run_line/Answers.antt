@@ -11,17 +11,17 @@ returns-clause-machine g c =
     let old = c.args.session.now in
     let call = c.take_line-turned in
     let new = call.new.session in
-    λ k goes ready.
-    let led = call.ensures.machine k goes ready in
+    λ k matches ready.
+    let led = call.ensures.machine k matches ready in
     let images = subst (λ (z : Sizes). EachImage (disk.view.contents new.committer.disk)
     (disk.view.unsynced new.committer.disk) (StandsForSome z led.next)) call.ensures.sizes
-    (c.images.ensures led.next led.goes.goes) in
+    (c.images.ensures led.next led.matches.matches) in
     record {
       next = led.next;
       does = led.does;
-      goes = record {
-        goes = led.goes.goes;
+      matches = record {
+        matches = led.matches.matches;
         moments = moments_of disk.view
-            g.met.D.Disk.only_now k led.next old new images led.goes;
+            g.met.D.Disk.only_now k led.next old new images led.matches;
       };
     }

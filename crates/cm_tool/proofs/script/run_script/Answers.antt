@@ -1,12 +1,12 @@
 use Rattle.std.proofs.Common.{◌∙◌, Ok, Err, Some, None, refl, subst}
 use Rattle.cm_guards.specs.Calls.{LeavesOnly}
-use Rattle.cm_machine.specs.Machine.{Machine}
-use Rattle.cm_session.specs.Moves.{GoesWith}
+use Rattle.cm_commands.specs.Machine.{Machine}
+use Rattle.cm_session.specs.Moves.{SessionMatches}
 use Rattle.cm_lines.specs.Streams.{io}
 use Rattle.cm_pool.specs.Geometry.{Sizes}
 use Rattle.cm_tool.specs.Answers.{served, pause, StandsBetween}
-use Rattle.cm_tool.specs.Runs.{Turns}
-use Rattle.cm_tool.specs.Serving.{IsReady, LedTo, GoesOn}
+use Rattle.cm_tool.specs.Runs.{TakesTurn}
+use Rattle.cm_tool.specs.Serving.{IsReady, ReachesServed, Progresses}
 use Rattle.cm_tool.proofs.Moments.{rests}
 use Rattle.cm_tool.proofs.Running.{Went, went, lines_start, lines_more, lines_lost, lines_end}
 use Rattle.cm_tool.proofs.Running.{lines_broken, lines_given_up}
@@ -16,12 +16,12 @@ pub lines-init : goal.lines-init
 lines-init g c =
     let s = c.args.session.now in (
       refl,
-      λ k goes ready.
+      λ k matches ready.
           lines_start (LeavesOnly g.D.Disk.view) s.committer.sizes
           (g.R.Read.remaining c.args.reader.now) (g.W.Write.contents c.args.writer.now) k
           (g.D.Disk.view.failures s.committer.disk) s.committer.disk _
-          (λ next. GoesWith next s) refl refl
-          ready goes,
+          (λ next. SessionMatches next s) refl refl
+          ready matches,
     )
 
 pub returns-then-outcome-clause-machine : goal.returns-then-outcome-clause-machine
@@ -41,27 +41,28 @@ returns-then-outcome-clause-machine g c =
     let h = g.W.Write.contents c.args.writer.now in
     let x = g.W.Write.contents c.lines.writer in
     let m = g.W.Write.contents c.run_line.new.writer in
-    let turn : (j : Machine) → GoesWith j old → IsReady j
-    → LedTo (λ t. Turns sizes d (io b x m) (Ok (Some c.in-Ok-Some.kind))
+    let turn : (j : Machine) → SessionMatches j old → IsReady j
+    → ReachesServed (λ t. TakesTurn sizes d (io b x m) (Ok (Some c.in-Ok-Some.kind))
     (pause (served j f) old.committer.disk)
     (pause t new.committer.disk)) now
-    (Went leaves sizes old.committer.disk new.committer.disk (λ next. GoesWith next new) j) =
-    subst (λ z. (j : Machine) → GoesWith j old → IsReady j
-    → LedTo (λ t. Turns z d (io b x m) (Ok (Some c.in-Ok-Some.kind))
+    (Went leaves sizes old.committer.disk new.committer.disk (λ next. SessionMatches next new) j) =
+    subst (λ z. (j : Machine) → SessionMatches j old → IsReady j
+    → ReachesServed (λ t. TakesTurn z d (io b x m) (Ok (Some c.in-Ok-Some.kind))
     (pause (served j f) old.committer.disk)
     (pause t new.committer.disk)) now
-    (Went leaves z old.committer.disk new.committer.disk (λ next. GoesWith next new) j))
+    (Went leaves z old.committer.disk new.committer.disk (λ next. SessionMatches next new) j))
     c.lines.invariant.0
-    (λ j goes ready. went disk.view now j old new
-    (subst (λ o. LedTo (λ t. Turns old.committer.sizes d (io b x m) (Ok o)
+    (λ j matches ready. went disk.view now j old new
+    (subst (λ o. ReachesServed (λ t. TakesTurn old.committer.sizes d (io b x m) (Ok o)
     (pause (served j f) old.committer.disk) (pause t new.committer.disk)) now
-    (GoesOn disk.view j old new)) c.in-Ok-Some.field-0-is
-    (c.in-Ok-Some.ensures.machine j goes ready))) in
-    λ k goes ready.
+    (Progresses disk.view j old new)) c.in-Ok-Some.field-0-is
+    (c.in-Ok-Some.ensures.machine j matches ready))) in
+    λ k matches ready.
     lines_lost leaves sizes a b d h x m
     (pause (served k (failures s.committer.disk)) s.committer.disk) c.lines.outcome f now
-    old.committer.disk new.committer.disk (λ next. GoesWith next old) (λ next. GoesWith next new)
-    (c.lines.invariant.1 k goes ready)
+    old.committer.disk new.committer.disk (λ next. SessionMatches next old)
+    (λ next. SessionMatches next new)
+    (c.lines.invariant.1 k matches ready)
     c.with_reply-outcome.result c.in-Ok-Some.kind turn
     (record {
       refused = c.with_reply-outcome.ensures.refused;
@@ -87,25 +88,27 @@ returns-in-Ok-None-clause-machine g c =
     let h = g.W.Write.contents c.args.writer.now in
     let x = g.W.Write.contents c.lines.writer in
     let m = g.W.Write.contents c.run_line.new.writer in
-    let turn : (j : Machine) → GoesWith j old → IsReady j
-    → LedTo (λ t. Turns sizes d (io b x m) (Ok None) (pause (served j f) old.committer.disk)
+    let turn : (j : Machine) → SessionMatches j old → IsReady j
+    → ReachesServed (λ t. TakesTurn sizes d (io b x m) (Ok None)
+    (pause (served j f) old.committer.disk)
     (pause t new.committer.disk)) now
-    (Went leaves sizes old.committer.disk new.committer.disk (λ next. GoesWith next new) j) =
-    subst (λ z. (j : Machine) → GoesWith j old → IsReady j
-    → LedTo (λ t. Turns z d (io b x m) (Ok None) (pause (served j f) old.committer.disk)
+    (Went leaves sizes old.committer.disk new.committer.disk (λ next. SessionMatches next new) j) =
+    subst (λ z. (j : Machine) → SessionMatches j old → IsReady j
+    → ReachesServed (λ t. TakesTurn z d (io b x m) (Ok None) (pause (served j f) old.committer.disk)
     (pause t new.committer.disk)) now
-    (Went leaves z old.committer.disk new.committer.disk (λ next. GoesWith next new) j))
+    (Went leaves z old.committer.disk new.committer.disk (λ next. SessionMatches next new) j))
     c.lines.invariant.0
-    (λ j goes ready. went disk.view now j old new
-    (subst (λ o. LedTo (λ t. Turns old.committer.sizes d (io b x m) (Ok o)
+    (λ j matches ready. went disk.view now j old new
+    (subst (λ o. ReachesServed (λ t. TakesTurn old.committer.sizes d (io b x m) (Ok o)
     (pause (served j f) old.committer.disk) (pause t new.committer.disk)) now
-    (GoesOn disk.view j old new)) c.in-Ok-None.field-0-is
-    (c.in-Ok-None.ensures.machine j goes ready))) in
-    λ k goes ready.
+    (Progresses disk.view j old new)) c.in-Ok-None.field-0-is
+    (c.in-Ok-None.ensures.machine j matches ready))) in
+    λ k matches ready.
     lines_end leaves sizes a b d h x m
     (pause (served k (failures s.committer.disk)) s.committer.disk) c.lines.outcome f now
-    old.committer.disk new.committer.disk (λ next. GoesWith next old) (λ next. GoesWith next new)
-    (c.lines.invariant.1 k goes ready)
+    old.committer.disk new.committer.disk (λ next. SessionMatches next old)
+    (λ next. SessionMatches next new)
+    (c.lines.invariant.1 k matches ready)
     turn
 
 pub returns-in-Err-clause-machine : goal.returns-in-Err-clause-machine
@@ -125,24 +128,27 @@ returns-in-Err-clause-machine g c =
     let h = g.W.Write.contents c.args.writer.now in
     let x = g.W.Write.contents c.lines.writer in
     let m = g.W.Write.contents c.run_line.new.writer in
-    let turn : (j : Machine) → GoesWith j old → IsReady j
-    → LedTo (λ t. Turns sizes d (io b x m) (Err c.in-Err.fault)
+    let turn : (j : Machine) → SessionMatches j old → IsReady j
+    → ReachesServed (λ t. TakesTurn sizes d (io b x m) (Err c.in-Err.fault)
     (pause (served j f) old.committer.disk)
     (pause t new.committer.disk)) now
-    (Went leaves sizes old.committer.disk new.committer.disk (λ next. GoesWith next new) j) =
-    subst (λ z. (j : Machine) → GoesWith j old → IsReady j
-    → LedTo (λ t. Turns z d (io b x m) (Err c.in-Err.fault) (pause (served j f) old.committer.disk)
+    (Went leaves sizes old.committer.disk new.committer.disk (λ next. SessionMatches next new) j) =
+    subst (λ z. (j : Machine) → SessionMatches j old → IsReady j
+    → ReachesServed (λ t. TakesTurn z d (io b x m) (Err c.in-Err.fault)
+    (pause (served j f) old.committer.disk)
     (pause t new.committer.disk)) now
-    (Went leaves z old.committer.disk new.committer.disk (λ next. GoesWith next new) j))
+    (Went leaves z old.committer.disk new.committer.disk (λ next. SessionMatches next new) j))
     c.lines.invariant.0
-    (λ j goes ready. went {Does = λ t. Turns old.committer.sizes d (io b x m) (Err c.in-Err.fault)
+    (λ j matches ready. went {Does =
+    λ t. TakesTurn old.committer.sizes d (io b x m) (Err c.in-Err.fault)
     (pause (served j f) old.committer.disk) (pause t new.committer.disk)} disk.view now
-    j old new (c.in-Err.ensures.machine j goes ready)) in
-    λ k goes ready.
+    j old new (c.in-Err.ensures.machine j matches ready)) in
+    λ k matches ready.
     lines_broken leaves sizes a b d h x m
     (pause (served k (failures s.committer.disk)) s.committer.disk) c.lines.outcome f now
-    old.committer.disk new.committer.disk (λ next. GoesWith next old) (λ next. GoesWith next new)
-    (c.lines.invariant.1 k goes ready)
+    old.committer.disk new.committer.disk (λ next. SessionMatches next old)
+    (λ next. SessionMatches next new)
+    (c.lines.invariant.1 k matches ready)
     c.in-Err.fault turn
 
 pub lines-preserved : goal.lines-preserved
@@ -162,29 +168,29 @@ lines-preserved g c =
     let h = g.W.Write.contents c.args.writer.now in
     let x = g.W.Write.contents c.lines.writer in
     let m = g.W.Write.contents c.run_line.new.writer in
-    let turn : (j : Machine) → GoesWith j old → IsReady j
-    → LedTo (λ t. Turns sizes d (io b x m) (Ok (Some c.in-Ok-Some.kind))
+    let turn : (j : Machine) → SessionMatches j old → IsReady j
+    → ReachesServed (λ t. TakesTurn sizes d (io b x m) (Ok (Some c.in-Ok-Some.kind))
     (pause (served j f) old.committer.disk)
     (pause t new.committer.disk)) now
-    (Went leaves sizes old.committer.disk new.committer.disk (λ next. GoesWith next new) j) =
-    subst (λ z. (j : Machine) → GoesWith j old → IsReady j
-    → LedTo (λ t. Turns z d (io b x m) (Ok (Some c.in-Ok-Some.kind))
+    (Went leaves sizes old.committer.disk new.committer.disk (λ next. SessionMatches next new) j) =
+    subst (λ z. (j : Machine) → SessionMatches j old → IsReady j
+    → ReachesServed (λ t. TakesTurn z d (io b x m) (Ok (Some c.in-Ok-Some.kind))
     (pause (served j f) old.committer.disk)
     (pause t new.committer.disk)) now
-    (Went leaves z old.committer.disk new.committer.disk (λ next. GoesWith next new) j))
+    (Went leaves z old.committer.disk new.committer.disk (λ next. SessionMatches next new) j))
     c.lines.invariant.0
-    (λ j goes ready. went disk.view now j old new
-    (subst (λ o. LedTo (λ t. Turns old.committer.sizes d (io b x m) (Ok o)
+    (λ j matches ready. went disk.view now j old new
+    (subst (λ o. ReachesServed (λ t. TakesTurn old.committer.sizes d (io b x m) (Ok o)
     (pause (served j f) old.committer.disk) (pause t new.committer.disk)) now
-    (GoesOn disk.view j old new)) c.in-Ok-Some.field-0-is
-    (c.in-Ok-Some.ensures.machine j goes ready))) in (
+    (Progresses disk.view j old new)) c.in-Ok-Some.field-0-is
+    (c.in-Ok-Some.ensures.machine j matches ready))) in (
       c.run_line.ensures.sizes ∙ c.lines.invariant.0,
-      λ k goes ready.
+      λ k matches ready.
           lines_more leaves sizes a b d h x m
           (pause (served k (failures s.committer.disk)) s.committer.disk) c.lines.outcome f now
-          old.committer.disk new.committer.disk (λ next. GoesWith next old)
-          (λ next. GoesWith next new)
-          (c.lines.invariant.1 k goes ready)
+          old.committer.disk new.committer.disk (λ next. SessionMatches next old)
+          (λ next. SessionMatches next new)
+          (c.lines.invariant.1 k matches ready)
           c.with_reply-outcome.result c.in-Ok-Some.kind turn
           (record {
             refused = c.with_reply-outcome.ensures.refused;
@@ -198,17 +204,18 @@ returns-clause-machine g c =
     let s = c.args.session.now in
     let old = c.lines.session in
     let disk = g.D.Disk in
-    let still : (j : Machine) → GoesWith j old
+    let still : (j : Machine) → SessionMatches j old
     → LeavesOnly disk.view old.committer.disk old.committer.disk
     (StandsBetween s.committer.sizes j j) =
-    λ j goes. subst (λ (z : Sizes). LeavesOnly disk.view old.committer.disk
+    λ j matches. subst (λ (z : Sizes). LeavesOnly disk.view old.committer.disk
     old.committer.disk (StandsBetween z j j)) c.lines.invariant.0
     (rests disk.view g.met.D.Disk.only_now j old
-    (c.images.ensures j goes) goes) in
-    λ k goes ready.
+    (c.images.ensures j matches) matches) in
+    λ k matches ready.
     lines_given_up (LeavesOnly disk.view) s.committer.sizes
     (g.R.Read.remaining c.args.reader.now) (g.R.Read.remaining c.lines.reader)
     (g.W.Write.contents c.args.writer.now) (g.W.Write.contents c.lines.writer)
     (pause (served k (disk.view.failures s.committer.disk)) s.committer.disk) c.lines.outcome
-    (disk.view.failures old.committer.disk) old.committer.disk (λ next. GoesWith next old) still
-    (c.lines.invariant.1 k goes ready)
+    (disk.view.failures old.committer.disk) old.committer.disk (λ next. SessionMatches next old)
+    still
+    (c.lines.invariant.1 k matches ready)

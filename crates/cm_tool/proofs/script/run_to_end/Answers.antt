@@ -11,11 +11,11 @@ pub returns : goal.returns
 returns g c =
     let disk = g.D.Disk in
     let new = c.run_script-result.new.session in
-    λ k goes ready.
-    let led = c.run_script-result.ensures.machine k goes ready in
+    λ k matches ready.
+    let led = c.run_script-result.ensures.machine k matches ready in
     let images = subst (λ d. EachImage (disk.view.contents d) (disk.view.unsynced d)
     (StandsForSome new.committer.sizes led.next)) (sym c.into_disk.ensures)
-    (c.images.ensures led.next led.goes) in (
+    (c.images.ensures led.next led.matches) in (
       served led.next (disk.view.failures new.committer.disk),
       subst (λ d. IsRun (LeavesOnly disk.view) c.args.session.committer.sizes
           (io (g.R.Read.remaining c.args.reader.now) (g.W.Write.contents c.args.writer.now)

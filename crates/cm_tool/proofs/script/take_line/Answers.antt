@@ -4,8 +4,8 @@ use Rattle.std.specs.Io.KnownBytes.{Appends}
 use Rattle.std.proofs.KnownBytes.{Keeps-refl}
 use Rattle.cm_lines.specs.Streams.{io, ReadsLine, WritesPart}
 use Rattle.cm_tool.specs.Answers.{served, pause}
-use Rattle.cm_tool.specs.Runs.{fault_of, HasEnded, Breaks, Turns}
-use Rattle.cm_tool.specs.Serving.{LedTo, MayGoOn}
+use Rattle.cm_tool.specs.Runs.{fault_of, HasEnded, RunBreaks, TakesTurn}
+use Rattle.cm_tool.specs.Serving.{ReachesServed, MayProgress}
 use Rattle.cm_tool.proofs.Commands.{stays}
 use Rattle.cm_tool.proofs.Moments.{still}
 use Rattle.cm_tool.proofs.Running.{unread, line_unmade, line_answered, line_unwritten}
@@ -20,11 +20,11 @@ returns-in-Ok-false-clause-machine g c =
     c.in-Ok-false.ensures.read in
     let s = c.args.session.now in
     let disk = g.D.Disk in
-    λ k goes ready.
+    λ k matches ready.
     let f = disk.view.failures s.committer.disk in
     stays {Does = λ t. HasEnded (io a h h) (pause (served k f) s.committer.disk)
     (pause t s.committer.disk)} k f (record { none = read; same = refl; nothing = Keeps-refl h })
-    (still disk.view k s goes)
+    (still disk.view k s matches)
 
 pub returns-in-Err-clause-machine : goal.returns-in-Err-clause-machine
 returns-in-Err-clause-machine g c =
@@ -33,14 +33,14 @@ returns-in-Err-clause-machine g c =
     let f = g.D.Disk.view.failures disk in
     let a = g.R.Read.remaining c.args.reader.now in
     let h = g.W.Write.contents c.args.writer.now in
-    λ k goes ready.
+    λ k matches ready.
     stays {Does =
-    λ t. Turns s.committer.sizes (g.R.Read.remaining c.read_line.new.reader) (io a h h)
+    λ t. TakesTurn s.committer.sizes (g.R.Read.remaining c.read_line.new.reader) (io a h h)
     (Err c.from.result) (pause (served k f) disk) (pause t disk)} k f
-    (subst (λ e. Breaks s.committer.sizes e (io a h h) (served k f) (served k f))
+    (subst (λ e. RunBreaks s.committer.sizes e (io a h h) (served k f) (served k f))
     (sym c.from.ensures)
     (unread s.committer.sizes a h (served k f) c.in-Err.fault c.in-Err.ensures.fault))
-    (still g.D.Disk.view k s goes)
+    (still g.D.Disk.view k s matches)
 
 pub returns-in-Err-answer-clause-machine : goal.returns-in-Err-answer-clause-machine
 returns-in-Err-answer-clause-machine g c =
@@ -52,12 +52,12 @@ returns-in-Err-answer-clause-machine g c =
     let h = g.W.Write.contents c.args.writer.now in
     let buffer = c.read_line.new.line in
     let read = subst (ReadsLine a b buffer) c.in-Ok-true.field-0-test c.in-Ok-true.ensures.read in
-    λ k goes ready.
+    λ k matches ready.
     line_unmade s.committer.sizes a b h (served k (failures s.committer.disk))
     (failures new.committer.disk) s.committer.disk new.committer.disk
-    (MayGoOn g.D.Disk.view k s new) buffer c.question-question.result read
-    c.question-question.ensures c.in-Err-answer.field-0
-    (c.in-Err-answer.ensures.machine k goes ready)
+    (MayProgress g.D.Disk.view k s new) buffer c.request-request.result read
+    c.request-request.ensures c.in-Err-answer.field-0
+    (c.in-Err-answer.ensures.machine k matches ready)
 
 pub returns-in-Ok-write_line-clause-machine : goal.returns-in-Ok-write_line-clause-machine
 returns-in-Ok-write_line-clause-machine g c =
@@ -70,11 +70,11 @@ returns-in-Ok-write_line-clause-machine g c =
     let m = g.W.Write.contents c.write_line.new.writer in
     let buffer = c.read_line.new.line in
     let read = subst (ReadsLine a b buffer) c.in-Ok-true.field-0-test c.in-Ok-true.ensures.read in
-    λ k goes ready.
+    λ k matches ready.
     line_answered s.committer.sizes a b h (served k (failures s.committer.disk))
     (failures new.committer.disk) s.committer.disk new.committer.disk
-    (MayGoOn g.D.Disk.view k s new) buffer c.question-question.result read
-    c.question-question.ensures AllocError m c.in-Ok.reply (c.in-Ok.ensures.machine k goes ready)
+    (MayProgress g.D.Disk.view k s new) buffer c.request-request.result read
+    c.request-request.ensures AllocError m c.in-Ok.reply (c.in-Ok.ensures.machine k matches ready)
     (subst (Appends h m) c.deref.ensures.value c.in-Ok-write_line.ensures.ok)
 
 pub returns-clause-machine : goal.returns-clause-machine
@@ -89,13 +89,13 @@ returns-clause-machine g c =
     let buffer = c.read_line.new.line in
     let read = subst (ReadsLine a b buffer) c.in-Ok-true.field-0-test c.in-Ok-true.ensures.read in
     let output = c.from-in-Err-write_line.ensures ∙ ap fault_of c.in-Err-write_line.ensures.fault in
-    λ k goes ready.
-    subst (λ e. LedTo (λ next. Turns s.committer.sizes b (io a h m) (Err e)
+    λ k matches ready.
+    subst (λ e. ReachesServed (λ next. TakesTurn s.committer.sizes b (io a h m) (Err e)
     (pause (served k (failures s.committer.disk)) s.committer.disk) (pause next new.committer.disk))
-    (failures new.committer.disk) (MayGoOn g.D.Disk.view k s new))
+    (failures new.committer.disk) (MayProgress g.D.Disk.view k s new))
     (sym output)
     (line_unwritten s.committer.sizes a b h (served k (failures s.committer.disk))
     (failures new.committer.disk) s.committer.disk new.committer.disk
-    (MayGoOn g.D.Disk.view k s new) buffer c.question-question.result read
-    c.question-question.ensures AllocError m c.in-Ok.reply (c.in-Ok.ensures.machine k goes ready)
+    (MayProgress g.D.Disk.view k s new) buffer c.request-request.result read
+    c.request-request.ensures AllocError m c.in-Ok.reply (c.in-Ok.ensures.machine k matches ready)
     (subst (WritesPart h m) c.deref.ensures.value c.in-Err-write_line.ensures.err))

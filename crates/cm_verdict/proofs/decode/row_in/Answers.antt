@@ -27,7 +27,7 @@ returns-in-Live-clause-value c =
     sym (row_of_entry c.args.version c.args.slots.now c.in-Live.row
     (sym c.entry_in.ensures.value ∙ c.in_ok-entry.was {u = tt} ∙ ap Some c.in-Live.is))
 
--- what another entry begins isn't a row
+-- what begins another entry isn't a row
 no_row : (version : ℕ) (slots : List ℕ) (e : BareEntry) → entry_in version slots ≡ Some e
     → ((row : BareRow) → e ≡ entry.Live row → ⊥) → None ≡ row_in version slots
 no_row version slots e there other =

@@ -1,5 +1,5 @@
--- `deallocate` makes the block of its places, whatever they hold, and hands it back with the
--- allocator's token. Assumes `Logic`.
+-- `deallocate` joins the places to a block, whatever they hold, and returns it with the allocator's
+-- token. Assumes `Logic`.
 use mathlib.Core.Path.{◌≡◌, refl, sym, ap, subst, ◌∙◌}
 use Prim.Native.Nat.{ℕ, ◌*◌, ◌<◌, ◌^◌}
 use native.Mathlib.Omega.{arith}

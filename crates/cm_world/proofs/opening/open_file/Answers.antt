@@ -1,10 +1,10 @@
 use Rattle.std.proofs.Common.{◌≡◌, sym, ap, subst, ◌∙◌}
 use Rattle.cm_disk.specs.declared.sim.SimDisk.{SimDisk}
-use Rattle.cm_disk.specs.Disk.{IsImage, IsSettled}
+use Rattle.cm_disk.specs.Disk.{IsImage, IsDurable}
 use Rattle.cm_disk.specs.Sim.{sim_view, sim_contents, sim_unsynced, sim_armed}
 use Rattle.cm_guards.specs.Calls.{LeavesOnly}
 use Rattle.cm_commit.specs.States.{CommitterState}
-use Rattle.cm_machine.specs.Machine.{Machine}
+use Rattle.cm_commands.specs.Machine.{Machine}
 use Rattle.cm_world.specs.declared.world.World.{World}
 use Rattle.cm_world.specs.declared.reply.Reply.TheVariants as reply
 use Rattle.cm_world.proofs.Moved.{Shows}
@@ -21,26 +21,27 @@ returns-in-Ok-clause-opened c =
     let disk = c.args.disk in
     let same = sym c.disarm.ensures.disk in
     let w : World = record { alloc = c.args.alloc; session = now } in
-    let goes = c.disarm.ensures.machine o.leads.next o.leads.goes in
+    let matches = c.disarm.ensures.machine o.reaches.next o.reaches.matches in
     let sizes_are = subst (λ (z : CommitterState SimDisk). z.sizes ≡ sizes) same o.sizes_are in
     record {
-      next = o.leads.next;
+      next = o.reaches.next;
       opens = record {
-        reopens = o.leads.does;
+        reopens = o.reaches.does;
         reply_is = ap reply.Opened (c.number.ensures
-            ∙ (sym goes.acknowledged_is
-            ∙ ap (λ (k : Machine). k.acknowledged) o.leads.does.reopens.next_is));
+            ∙ (sym matches.acknowledged_is
+            ∙ ap (λ (k : Machine). k.acknowledged) o.reaches.does.reopens.next_is));
         contents_stay = subst (λ (z : CommitterState SimDisk).
             sim_contents z.disk ≡ sim_contents disk) same run.contents_stay;
         stored = subst (λ (z : CommitterState SimDisk).
-            IsSettled (sim_contents z.disk) (sim_unsynced z.disk)) same o.settled;
+            IsDurable (sim_contents z.disk) (sim_unsynced z.disk)) same o.durable;
         disarmed = ap (λ (z : CommitterState SimDisk). sim_armed z.disk) c.disarm.ensures.disk;
       };
       moments = subst (λ (z : CommitterState SimDisk). LeavesOnly sim_view disk
           z.disk (IsImage (sim_contents disk) (sim_unsynced disk))) same
           (let before = run.images in
           record { later = before.later; each = before.each; before = before.before });
-      images = subst (λ z. Shows z o.leads.next w) sizes_are (c.images.ensures o.leads.next goes);
-      goes = goes;
+      images = subst (λ z. Shows z o.reaches.next w) sizes_are
+          (c.images.ensures o.reaches.next matches);
+      matches = matches;
       sizes_are = sizes_are;
     }

@@ -21,7 +21,7 @@ offset c = c.next_offset-offset.ensures ∙
     (λ i. next_offset (chain_of (c.deref.ensures.value i) (c.deref-2.ensures.value i))
     c.args.place.chunk)
 
--- what is known where the chunk is the last one
+-- what is known if the chunk is the last one
 record IsLastOne (cs : List Chunk) (us : List ℕ) (k : ℕ) (c : Chunk) (n : ℕ) : Type 0 where
   len : length cs ≡ suc k
   chunk : get_or cs k c ≡ c

@@ -8,7 +8,7 @@ use Rattle.cm_arena.specs.Tightening.{with_last}
 use Rattle.cm_arena.proofs.Tightened.{last_is, exchanged_is, some_last, last-exchanged}
 use Rattle.cm_arena.proofs.arena.Arena.swap_last.Goals as goal
 
--- the last chunk stands behind the others
+-- the last chunk comes after the others
 len : (c : goal.After-self-1)
     → length c.self.inside.chunks.items ≡ suc (c.len-last.result - 1)
 len c =

@@ -13,7 +13,7 @@ invariant_of-self-in-Some-End g c =
 
 pub invariant_of-self-in-Ok : goal.invariant_of-self-in-Ok
 invariant_of-self-in-Ok g c =
-    joined_on _ _ _ c.groups_carry_on.ensures.joined _ _ _ _ _ c.self.invariant
+    joined_on _ _ _ c.groups_may_follow.ensures.joined _ _ _ _ _ c.self.invariant
     (sym c.take.ensures.value ∙ c.in-Some.is) (sym c.is_some.ensures ∙ c.if-is_some.false)
     c.if-self.false
     (c.in-Some-Group.ensures.received

@@ -1,5 +1,5 @@
 use Rattle.std.proofs.Common.{List, sym, subst}
-use Rattle.cm_prepare.specs.Commands.{change_asked}
+use Rattle.cm_commands.specs.Commands.{change_asked}
 use Rattle.cm_cache.specs.declared.channel.Message.{Message}
 use Rattle.cm_cache.specs.Handing.{IsTied, HandsOver}
 use Rattle.cm_cache.proofs.Tied.{carries_on, still_tied, hands_over}
@@ -8,7 +8,7 @@ use Rattle.cm_cache.proofs.handing.Handing.hand_over.Goals as goal
 pub send-requires-clause-may : goal.send-requires-clause-may
 send-requires-clause-may g c =
     carries_on _ _ _ _ _ _ c.self.invariant c.in-Ok.ensures.ok c.ahead_stays_ahead.ensures.accepted
-    c.groups_carry_on.ensures.handed
+    c.groups_may_follow.ensures.handed
 
 pub invariant_of-self-2 : goal.invariant_of-self-2
 invariant_of-self-2 g c =

@@ -1,4 +1,4 @@
--- `none` makes a value of no bytes, which tells nothing yet.
+-- `none` makes a value of no bytes, which holds no change yet.
 use mathlib.Core.Path.{refl}
 use mathlib.Core.List.{[], ◌∷◌}
 use seplogic.Ra.Ura.{Ura}

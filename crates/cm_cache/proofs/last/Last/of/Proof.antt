@@ -30,8 +30,8 @@ use denote.Triple.Entry.{on_entry, alive}
 use denote.Triple.Spec.{Meets, triple_of}
 use denote.Triple.Table.{entered}
 use denote.Triple.Walked.{says, Stays, stay_dropped, walk_of, ends_at, Goes-dropped, walk_Meets}
-use Rattle.cm_prepare.specs.Commands.{change_asked}
-use Rattle.cm_prepare.specs.contracts.command.Command as U
+use Rattle.cm_commands.specs.Commands.{change_asked}
+use Rattle.cm_commands.specs.contracts.command.Command as U
 use Rattle.cm_cache.specs.contracts.last.Last.of.Key.{name as #it}
 use Rattle.cm_cache.specs.contracts.last.Last.of as it
 use Rattle.cm_cache.proofs.last.Last.of.Statement as stated
@@ -61,8 +61,8 @@ module _ {M : Type 1} {𝓤 : Ura M} (𝓛 : Logic 𝓤) (at_mem : Memory → SP
     abbrev Post : List Val → List Val → Val → SProp 𝓤
     Post us vs = (walk_of 𝓛 it.ended stayed held).post (At us vs)
 
-    abbrev Goes : List Val → List Val → Type 1
-    Goes us vs = ent 𝓤 ((walk_of 𝓛 it.ended stayed held).pre (At us vs))
+    abbrev Matching : List Val → List Val → Type 1
+    Matching us vs = ent 𝓤 ((walk_of 𝓛 it.ended stayed held).pre (At us vs))
         (WpFn 𝓤 H C Λ code.function (us ++ (vs ++ [])) (Post us vs))
 
     abbrev at_command : List Val
@@ -77,7 +77,7 @@ module _ {M : Type 1} {𝓤 : Ura M} (𝓛 : Logic 𝓤) (at_mem : Memory → SP
     abbrev passed : Fml
     passed = owns (types_at (it.ended).signature.params z.0.0) z.0.3 (at_command, (at_number, tt))
 
-    walks : Goes at_command at_number
+    walks : Matching at_command at_number
     walks =
         let v : Val = vstruct (vcons (vstruct vnil) vnil) in
         let r : denote.Triple.Entry.Res (it.ended).signature z.0.0 = record {
@@ -120,7 +120,7 @@ module _ {M : Type 1} {𝓤 : Ura M} (𝓛 : Logic 𝓤) (at_mem : Memory → SP
       (snd∗ 𝓤 (alive 𝓛 (it.ended).signature z.0.0 z.0.1) (sem 𝓛 (owns Rs a vss))))
       (owns_show 𝓛 Rs (Ises Rs) (showss 𝓛 Rs) a vss))
       (λ are.
-      subst (λ (p : List Val × List Val). Goes 𝓣.C 𝓣.Λ z p.0 p.1)
+      subst (λ (p : List Val × List Val). Matching 𝓣.C 𝓣.Λ z p.0 p.1)
       (λ i. (sym are.0.0 i, sym are.1.0.0 i)) (walks 𝓣.C 𝓣.Λ z)))
 
 pub of_spec : {M : Type 1} → stated.statement M

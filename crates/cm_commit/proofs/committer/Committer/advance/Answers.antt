@@ -6,7 +6,7 @@ use Rattle.cm_guards.specs.Stages.{after_call, calls_left, CallsOnce, TakesCall}
 use Rattle.cm_guards.proofs.{leaves_none, call_cause, one_call_less}
 use Rattle.cm_layout.specs.Rows.{rows_with, bare}
 use Rattle.cm_group.specs.Groups.{Handed, entries_in}
-use Rattle.cm_commit.specs.declared.journal.Journal.{Journal}
+use Rattle.cm_commit.specs.declared.journal_end.JournalEnd.{JournalEnd}
 use Rattle.cm_commit.specs.Checkpoints.{target_of}
 use Rattle.cm_commit.specs.Keeping.{keep_rules}
 use Rattle.cm_commit.specs.States.{Work, MayLeave}
@@ -239,7 +239,7 @@ finish-receipt-requires-clause-first g c =
     let to = c.target_of-target.result in
     let stays = target_stays s.journal (bare rows) c.unwrap-group.result.entries in
     let number : to.number ≡ s.journal.number =
-    ap (λ (j : Journal). j.number) c.target_of-target.ensures ∙ stays.1 in
+    ap (λ (j : JournalEnd). j.number) c.target_of-target.ensures ∙ stays.1 in
     let b = busy g.D.Disk.view v s.rows.sizes s.next s.roots
     (vec_capacity s.buffer) c.self.invariant
     c.unwrap-group.result underway in
@@ -255,7 +255,7 @@ finish-receipt-requires-clause-above g c =
     let to = c.target_of-target.result in
     let stays = target_stays s.journal (bare rows) c.unwrap-group.result.entries in
     let number : to.number ≡ s.journal.number =
-    ap (λ (j : Journal). j.number) c.target_of-target.ensures ∙ stays.1 in
+    ap (λ (j : JournalEnd). j.number) c.target_of-target.ensures ∙ stays.1 in
     above_own arc_value s.rows.rows (to.number + 1)
     (rw number
     (next_above s.journal.geometry s.journal.number (bare rows) c.self.invariant.cache.live))
@@ -270,7 +270,7 @@ finish-receipt-requires-clause-kept g c =
     let to = c.target_of-target.result in
     let stays = target_stays s.journal (bare rows) c.unwrap-group.result.entries in
     let number : to.number ≡ s.journal.number =
-    ap (λ (j : Journal). j.number) c.target_of-target.ensures ∙ stays.1 in
+    ap (λ (j : JournalEnd). j.number) c.target_of-target.ensures ∙ stays.1 in
     let b = busy g.D.Disk.view v s.rows.sizes s.next s.roots
     (vec_capacity s.buffer) c.self.invariant
     c.unwrap-group.result underway in
@@ -301,7 +301,7 @@ finish-receipt-requires-clause-end g c =
     (vec_capacity s.buffer) c.self.invariant
     c.unwrap-group.result underway in
     let there : FitsJournal c.target_of-target.result c.unwrap-group.result =
-    subst (λ (j : Journal). FitsJournal j c.unwrap-group.result)
+    subst (λ (j : JournalEnd). FitsJournal j c.unwrap-group.result)
     (sym c.target_of-target.ensures) f in
     omega (arith, there.room, there.lawful.slots_to)
 
@@ -397,7 +397,7 @@ returns-clause-moved g c =
     let to = c.target_of-target.result in
     let stays = target_stays s.journal (bare rows) c.unwrap-group.result.entries in
     let number : to.number ≡ s.journal.number =
-    ap (λ (j : Journal). j.number) c.target_of-target.ensures ∙ stays.1 in
+    ap (λ (j : JournalEnd). j.number) c.target_of-target.ensures ∙ stays.1 in
     rw (← c.self.view_is) (record {
       sound = c.if-self.false;
       last = one_call_less v.left b.some ∙ ap (λ l. 1 + calls_left l) last;

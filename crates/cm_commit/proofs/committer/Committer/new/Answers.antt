@@ -23,7 +23,7 @@ invariant_of-result g c =
       room_is = rw c.in-Ok.buffer-is c.in-Ok.ensures.room;
       at = record {
         sound = refl;
-        settled = held.settled;
+        durable = held.durable;
         shows = held.matches;
         roots_are = held.roots_are;
       };

@@ -2,7 +2,7 @@ use Rattle.std.proofs.Common.{sym, ap, ◌∙◌, is_some}
 use Rattle.std.specs.Prelude.{vec_capacity}
 use Rattle.std.specs.Arc.{arc_value}
 use Rattle.cm_layout.specs.Rows.{bare, rows_with}
-use Rattle.cm_commit.specs.States.{CommitterState, Takes}
+use Rattle.cm_commit.specs.States.{CommitterState, TakesGroup}
 use Rattle.cm_commit.specs.Steps.{work_of}
 use Rattle.cm_commit.specs.Steps.{committer_of}
 use Rattle.cm_commit.proofs.Offering.{none_under_way, next_before, next_after, taken, as_taken}
@@ -28,7 +28,7 @@ invariant_of-self-2 g c =
     let none = none_under_way (work_of s.group s.step)
     (ap (λ (z : CommitterState _). is_some z.underway) c.self.view_is
     ∙ (sym c.is_busy.ensures ∙ c.if-is_busy.false)) in
-    let takes : Takes v c.args.group = record {
+    let takes : TakesGroup v c.args.group = record {
       sound = c.if-self.false;
       idle = none;
       next = c.take_group.ensures.comes.0 c.if-not-take_group.false;
@@ -53,7 +53,7 @@ returns-clause-taken g c =
     let none = none_under_way (work_of s.group s.step)
     (ap (λ (z : CommitterState _). is_some z.underway) c.self.view_is
     ∙ (sym c.is_busy.ensures ∙ c.if-is_busy.false)) in
-    let takes : Takes v c.args.group = record {
+    let takes : TakesGroup v c.args.group = record {
       sound = c.if-self.false;
       idle = none;
       next = c.take_group.ensures.comes.0 c.if-not-take_group.false;
@@ -72,7 +72,7 @@ returns-clause-steps g c =
     let none = none_under_way (work_of s.group s.step)
     (ap (λ (z : CommitterState _). is_some z.underway) c.self.view_is
     ∙ (sym c.is_busy.ensures ∙ c.if-is_busy.false)) in
-    let takes : Takes v c.args.group = record {
+    let takes : TakesGroup v c.args.group = record {
       sound = c.if-self.false;
       idle = none;
       next = c.take_group.ensures.comes.0 c.if-not-take_group.false;

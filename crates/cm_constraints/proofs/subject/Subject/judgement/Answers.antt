@@ -1,7 +1,7 @@
 use Rattle.std.proofs.Common.{Option, [], ap, sym, ◌∙◌}
 use Rattle.std.specs.Prelude.{unwrap_or}
-use Rattle.cm_names.specs.declared.judgement.Judgement.{Judgement}
-use Rattle.cm_names.specs.Judgement.{judgement}
+use Rattle.cm_descriptors.specs.declared.judgement.Judgement.{Judgement}
+use Rattle.cm_descriptors.specs.Judgement.{judgement}
 use Rattle.cm_constraints.proofs.Tables.{at_index}
 use Rattle.cm_constraints.proofs.subject.Subject.judgement.Goals as goal
 

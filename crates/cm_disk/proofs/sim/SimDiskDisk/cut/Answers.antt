@@ -23,7 +23,7 @@ returns-clause-cuts c =
       cause = search rules;
     }
 
--- it fails: the length may be less from now on, but isn't
+-- the call fails: the length may be less from now on, but isn't
 pub returns-then-is_some-clause-cuts : goal.returns-then-is_some-clause-cuts
 returns-then-is_some-clause-cuts c =
     let old = c.args.self.now.medium in

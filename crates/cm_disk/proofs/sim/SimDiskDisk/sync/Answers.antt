@@ -9,14 +9,15 @@ returns-clause-syncs c =
     let old = c.args.self.now.medium in
     let rest = c.begin_call.ensures.rest in
     record {
-      settled = search rules;
-      not_settled = search rules;
+      durable = search rules;
+      not_durable = search rules;
       same = search rules;
-      time = elapses_sync old.bytes.items c.settle.new.self.bytes.items (medium_unsynced old)
-          (medium_unsynced c.settle.new.self)
+      time = elapses_sync old.bytes.items c.make_durable.new.self.bytes.items (medium_unsynced old)
+          (medium_unsynced c.make_durable.new.self)
           c.args.self.now.history.moments c.note-2.new.self.moments (moment_of old)
           (c.note-2.ensures ∙ ap (λ (d : SimDisk). moment_of d.medium ∷ d.history.moments) rest)
           refl refl
-          (c.settle.ensures.bytes ∙ ap (λ (d : SimDisk). d.medium.bytes.items) rest) (search rules);
+          (c.make_durable.ensures.bytes
+          ∙ ap (λ (d : SimDisk). d.medium.bytes.items) rest) (search rules);
       cause = search rules;
     }

@@ -7,7 +7,7 @@ returns-in-Ok-clause-cuts c = record {
   cut = search rules;
   between = search rules;
   shortens = search rules;
-  time = was_cut c.args.len c.args.self.now.course.state c.note.new.self.state c.requires
+  time = was_cut c.args.len c.args.self.now.history.state c.note.new.self.state c.requires
       c.note.ensures;
   cause = search rules;
 }
@@ -17,7 +17,7 @@ returns-in-Err-clause-cuts c = record {
   cut = search rules;
   between = search rules;
   shortens = search rules;
-  time = not_cut c.args.len c.args.self.now.course.state c.note-in-Err.new.self.state c.requires
+  time = not_cut c.args.len c.args.self.now.history.state c.note-in-Err.new.self.state c.requires
       c.note-in-Err.ensures;
   cause = search rules;
 }

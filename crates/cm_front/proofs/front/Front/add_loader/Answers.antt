@@ -10,9 +10,9 @@ use Rattle.cm_layout.specs.Rows.{rows_after}
 use Rattle.cm_space.specs.Space.{IsKnown}
 use Rattle.cm_rows.specs.Rows.{is_above}
 use Rattle.cm_state.specs.Step.{AddLoader}
-use Rattle.cm_prepare.specs.declared.refusal.Refusal.{Refusal}
+use Rattle.cm_commands.specs.declared.refusal.Refusal.{Refusal}
 use Rattle.cm_front.specs.Front.{FrontState, IsFront, front_of}
-use Rattle.cm_front.specs.Unsealed.{GoUpTo}
+use Rattle.cm_front.specs.Unsealed.{EndBefore}
 use Rattle.cm_front.specs.Accepting.{FrontAccepts, joined_by}
 use Rattle.cm_front.specs.Refusing.{loader_made}
 use Rattle.cm_front.proofs.Causes.{loader_refused, was_made}
@@ -84,7 +84,7 @@ pub join-requires-clause-next : goal.join-requires-clause-next
 join-requires-clause-next c =
     let made = was_made c.args.self.now c.args.name.now c.in_ok-number.number
     (sym c.in_ok-number.ensures) in
-    subst (λ (n : ℕ). GoUpTo c.make_ready.new.self.groups n) (sym made.number)
+    subst (λ (n : ℕ). EndBefore c.make_ready.new.self.groups n) (sym made.number)
     (next_follows c.args.self.now c.make_ready.new.self.groups
     (subst IsFront c.self.view_is c.self.invariant)
     (c.make_ready.ensures.groups ∙ ap (λ (t : FrontState). t.unsealed) c.self.view_is))

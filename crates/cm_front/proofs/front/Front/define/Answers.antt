@@ -12,8 +12,8 @@ use Rattle.cm_layout.specs.declared.entry.Entry.TheVariants as entry
 use Rattle.cm_layout.specs.declared.row.Row.TheVariants.{Class}
 use Rattle.cm_pool.specs.declared.place.Place.{Place}
 use Rattle.cm_state.specs.Step.{Define}
-use Rattle.cm_prepare.specs.declared.refusal.Refusal.{Refusal}
-use Rattle.cm_prepare.specs.declared.refusal.Refusal.TheVariants as refusal
+use Rattle.cm_commands.specs.declared.refusal.Refusal.{Refusal}
+use Rattle.cm_commands.specs.declared.refusal.Refusal.TheVariants as refusal
 use Rattle.cm_front.specs.Front.{FrontState, IsFront, front_of}
 use Rattle.cm_front.specs.Accepting.{FrontAnswers, FrontAccepts, joined_by}
 use Rattle.cm_front.specs.Refusing.{class_asked}

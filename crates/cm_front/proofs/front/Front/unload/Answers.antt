@@ -4,7 +4,7 @@ use Rattle.std.proofs.lemmas.Result.{err_from_is_err_and}
 use Rattle.cm_layout.specs.declared.entry.Entry.{Entry}
 use Rattle.cm_layout.specs.declared.entry.Entry.TheVariants as entry
 use Rattle.cm_state.specs.Step.{Unload}
-use Rattle.cm_prepare.specs.declared.refusal.Refusal.{Refusal}
+use Rattle.cm_commands.specs.declared.refusal.Refusal.{Refusal}
 use Rattle.cm_front.specs.Front.{FrontState, front_of}
 use Rattle.cm_front.specs.Accepting.{FrontAccepts, joined_by}
 use Rattle.cm_front.specs.Refusing.{loader_asked}

@@ -8,7 +8,7 @@ use Rattle.cm_layout.specs.declared.entry.Entry.TheVariants as entry
 use Rattle.cm_layout.specs.Laws.{LoadersAreOwn}
 use Rattle.cm_space.specs.Space.{IsKnown, left_by_all}
 use Rattle.cm_state.specs.Step.{UnloadAll}
-use Rattle.cm_prepare.specs.declared.refusal.Refusal.{Refusal}
+use Rattle.cm_commands.specs.declared.refusal.Refusal.{Refusal}
 use Rattle.cm_front.specs.Front.{FrontState, IsFront, front_of}
 use Rattle.cm_front.specs.Accepting.{FrontAccepts, joined_by}
 use Rattle.cm_front.specs.Refusing.{loaders_asked}
@@ -21,7 +21,7 @@ use Rattle.cm_front.proofs.Answering.{unload_all_keeps, unload_all_asked, last_o
 use Rattle.cm_front.proofs.Answering.{all_apart}
 use Rattle.cm_front.proofs.front.Front.unload_all.Goals as goal
 
--- the answer is one for the fields too
+-- the result is the same for the fields
 asked : (s t : FrontState) (xs : List (List ℕ)) (us : List ℕ) → s ≡ t
     → ◌≡◌ {A = Result (List ℕ) Refusal} (Ok us) (loaders_asked t xs) → AreAsked s xs us
 asked s t xs us same e =

@@ -1,5 +1,5 @@
 use Rattle.std.proofs.Common.{ap, ◌∙◌}
-use Rattle.cm_maintenance.specs.Gathered.{by_bytes, with_entry}
+use Rattle.cm_maintenance.specs.Gathered.{by_bytes, entry_put}
 use Rattle.cm_maintenance.proofs.Entries.{by_bytes-insert}
 use Rattle.cm_maintenance.proofs.gathered.Gathered.add_loader.Goals as goal
 
@@ -8,5 +8,5 @@ returns-clause-numbers c =
     let old = c.args.self.now.numbers.entries in
     ap by_bytes c.in_ok-insert.ensures.entries
     ∙ (by_bytes-insert old c.in_ok-name.name c.args.row.now.number
-    ∙ ap (λ name. with_entry name c.args.row.now.number (by_bytes old))
+    ∙ ap (λ name. entry_put name c.args.row.now.number (by_bytes old))
     (c.in_ok-name.ensures.items ∙ c.as_bytes.ensures.value))

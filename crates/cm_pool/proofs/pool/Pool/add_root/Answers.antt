@@ -16,7 +16,7 @@ place c =
     hole-place a.geometry.top _ a.rows.items (root_block a.geometry a.roots)
     (root-hole a.geometry a.roots a.rows.items c.self.invariant (below c))
 
--- the code's block
+-- the block in the code
 is_root : (c : After-top)
     → record { index = c.self.inside.roots; order = c.top.result }
     ≡ root_block c.self.inside.geometry c.self.inside.roots

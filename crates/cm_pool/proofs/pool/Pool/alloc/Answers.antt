@@ -5,7 +5,7 @@ use Rattle.std.proofs.lemmas.Bool.{true≢false}
 use Rattle.cm_pool.specs.FreeSpace.{FreeSpace, IsFreeChunk, HasFree, without}
 use Rattle.cm_pool.specs.Chunks.{IsBlock}
 use Rattle.cm_pool.specs.Blocks.{IsSame, start, stop}
-use Rattle.cm_pool.specs.Rows.{is_marked, IsFirst, IsFirstFrom}
+use Rattle.cm_pool.specs.Rows.{is_marked, IsFirstBlock, IsFirstFrom}
 use Rattle.cm_pool.proofs.Dyadic.{inside-stop}
 use Rattle.cm_pool.proofs.Spaces.{space-without}
 use Rattle.cm_pool.proofs.Pools.{none-free, first-start, not-before, held-free, marked-stop}
@@ -25,10 +25,10 @@ returns-in_err-from-clause-none c =
     )
 
 first : (c : In_ok-from)
-    → IsFirst c.self.inside.rows.items c.args.order (length c.self.inside.rows.items)
+    → IsFirstBlock c.self.inside.rows.items c.args.order (length c.self.inside.rows.items)
     c.in_ok-from.from
 first c = subst
-    (λ (rows : List (List ℕ)). IsFirst rows c.args.order (length rows) c.in_ok-from.from)
+    (λ (rows : List (List ℕ)). IsFirstBlock rows c.args.order (length rows) c.in_ok-from.from)
     c.deref.ensures.value c.in_ok-from.ensures
 
 pub first-wanted-requires-clause-fits : goal.first-wanted-requires-clause-fits

@@ -2,7 +2,7 @@ use Rattle.std.proofs.Common.{◌≡◌, ℕ, ◌*◌, ◌^◌, ◌<◌, true, s
 use Rattle.cm_pool.specs.FreeSpace.{FreeSpace, IsUsedChunk, with_chunk}
 use Rattle.cm_pool.specs.Chunks.{IsBlock}
 use Rattle.cm_pool.specs.Blocks.{IsSame, is_in}
-use Rattle.cm_pool.specs.Rows.{IsKept, space_of}
+use Rattle.cm_pool.specs.Rows.{AreBitRows, space_of}
 use Rattle.cm_pool.proofs.Dyadic.{is_in-bounds}
 use Rattle.cm_pool.proofs.Spaces.{used-uncovered, space-with_chunk}
 use Rattle.cm_pool.proofs.Pools.{pool-given, same-stop, within-limit, few-roots}
@@ -57,7 +57,8 @@ give_back-requires-clause-kept c =
     let limit = a.geometry.roots * 2 ^ a.geometry.top in (
       limit,
       subst
-          (λ t. IsKept t limit a.rows.items) (sym c.top-top.ensures.value) c.self.invariant.kept,
+          (λ t. AreBitRows t limit a.rows.items) (sym c.top-top.ensures.value)
+          c.self.invariant.kept,
       low at.After-of_chunk-block (used at.After-top-top),
     )
 
@@ -77,9 +78,9 @@ invariant_of-self c =
     pool-given a.geometry a.roots a.rows.items c.give_back.new.rows.items b c.self.invariant
     (same-stop a.geometry.top a.roots c.args.chunk b (same at.After-of_chunk-block)
     (used at.After-top-top).block)
-    (subst (λ t. IsKept t limit c.give_back.new.rows.items) c.top-top.ensures.value
+    (subst (λ t. AreBitRows t limit c.give_back.new.rows.items) c.top-top.ensures.value
     (c.give_back.ensures.kept limit (subst
-    (λ t. IsKept t limit a.rows.items) (sym c.top-top.ensures.value) c.self.invariant.kept)
+    (λ t. AreBitRows t limit a.rows.items) (sym c.top-top.ensures.value) c.self.invariant.kept)
     (low at.After-of_chunk-block (used at.After-top-top))))
     c.give_back.ensures.covered
 

@@ -27,7 +27,7 @@ returns-clause-images g c =
     let old = g.D.Disk.view.contents c.args.disk.now in
     gate_images g.D.Disk.view c.write_at.result IsNoCache (IsEmptyCache sizes) 4095 165
     c.args.disk.now c.write_at.new.self c.write_at.ensures.writes
-    (turns_here sizes c.requires.lawful old c.requires.shut) c.requires.settled
+    (turns_here sizes c.requires.lawful old c.requires.shut) c.requires.durable
 
 pub returns-clause-any_moment : goal.returns-clause-any_moment
 returns-clause-any_moment g c =
@@ -35,5 +35,5 @@ returns-clause-any_moment g c =
     let old = g.D.Disk.view.contents c.args.disk.now in
     gate_leaves g.D.Disk.view
     g.met.D.Disk.only_now c.args.disk.now c.write_at.new.self IsNoCache (IsEmptyCache sizes) 4095
-    165 (turns_here sizes c.requires.lawful old c.requires.shut) c.requires.settled
+    165 (turns_here sizes c.requires.lawful old c.requires.shut) c.requires.durable
     (none_here sizes c.requires.lawful old c.requires.shut) c.write_at.ensures.writes.time

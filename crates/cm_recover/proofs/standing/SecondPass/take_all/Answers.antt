@@ -4,7 +4,7 @@ use Rattle.cm_layout.specs.declared.row.Row.{Row}
 use Rattle.cm_verdict.specs.declared.defined_at.DefinedAt.{DefinedAt}
 use Rattle.cm_verdict.specs.Verdict.{classes_found}
 use Rattle.cm_recover.specs.Opening.{IsFaultIn}
-use Rattle.cm_recover.specs.Standing.{Tells, AreRecorded, row_found}
+use Rattle.cm_recover.specs.Standing.{ReportsOk, AreRecorded, row_found}
 use Rattle.cm_recover.specs.declared.fault.OpenFault.TheVariants as open_fault
 use Rattle.cm_recover.proofs.Readings.{then_reads, no_more, ok_no_fault, passed_on}
 use Rattle.cm_recover.proofs.Verdicts.{fault_told}
@@ -45,7 +45,8 @@ loop-row-preserved g c =
           c.args.disk.now l.disk c.take_row.new.disk _ _ (λ (x : ⊥). x) l.invariant.reads
           t.reads);
       passing = passing_on sizes contents number all rest row l.rows p c.take_row.new.rows
-          (subst (λ (now : List ℕ). Tells (λ (u : Unit {0}). AreRecorded sizes c.take_row.new.rows)
+          (subst (λ (now : List ℕ). ReportsOk
+          (λ (u : Unit {0}). AreRecorded sizes c.take_row.new.rows)
           (row_found sizes now p.taken row) tt) l.invariant.reads.contents_stay
           (t.taken p.taken p.recorded));
     }

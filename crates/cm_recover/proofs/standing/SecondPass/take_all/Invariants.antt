@@ -3,7 +3,7 @@ use Rattle.cm_guards.specs.Calls.{Reads}
 use Rattle.cm_recover.proofs.Passing.{IsPassing}
 use Rattle.cm_recover.proofs.standing.SecondPass.take_all.Given as goal
 
--- what is still to be taken comes to what all of it does
+-- the rows still to be taken lead to the same result as all rows
 abbrev pub invariant-loop-row : goal.invariant-loop-row
 invariant-loop-row g l = record {
   reads : Reads g.D.Disk.view l.fn.disk l.disk ⊥;

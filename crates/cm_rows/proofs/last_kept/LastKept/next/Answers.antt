@@ -6,7 +6,7 @@ use Rattle.cm_layout.specs.Rows.{kept_on}
 use Rattle.cm_layout.specs.declared.class_row.ClassRow.{ClassRow}
 use Rattle.cm_layout.specs.declared.row.Row.{Row}
 use Rattle.cm_layout.specs.declared.row.Row.TheVariants.{Loader, Class}
-use Rattle.cm_rows.specs.Links.{ComesBack, GoesBack, rows_to}
+use Rattle.cm_rows.specs.Links.{ComesBack, LinksBack, rows_to}
 use Rattle.cm_rows.proofs.Backward.{nothing-left, taken, found-row}
 use Rattle.cm_rows.proofs.last_kept.LastKept.next.Goals as goal
 
@@ -47,7 +47,7 @@ invariant_of-self g c =
     c.in-Class.row c.in-Class.kept c.in-Class.is in
     let t = taken k.slots.now k.before.now k.left.chunk k.next k.left.used c.in_ok-at.at
     c.self.invariant b in
-    subst (λ (r : ClassRow). GoesBack k.slots.now k.before.now k.left.chunk
+    subst (λ (r : ClassRow). LinksBack k.slots.now k.before.now k.left.chunk
     (get_or k.before.now c.in_ok-at.at None) (k.left.used - r.place.words)) f.0 t.0
 
 pub returns : goal.returns

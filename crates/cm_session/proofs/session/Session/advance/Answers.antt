@@ -4,7 +4,7 @@ use Rattle.cm_guards.specs.Calls.{LeavesOnly}
 use Rattle.cm_commit.specs.Advances.{CallsDevice}
 use Rattle.cm_commit.specs.States.{MayLeave}
 use Rattle.cm_session.specs.Images.{StandsForSome}
-use Rattle.cm_session.specs.Moves.{Leads, Advancing}
+use Rattle.cm_session.specs.Moves.{ReachesMachine, Advancing}
 use Rattle.cm_session.specs.Session.{IsSession}
 use Rattle.cm_session.proofs.Shown.{stands_for_some, leaves_so}
 use Rattle.cm_session.proofs.Stepping.{advanced}
@@ -13,7 +13,7 @@ use Rattle.cm_session.proofs.session.Session.advance.Goals as goal
 pub returns-clause-machine : goal.returns-clause-machine
 returns-clause-machine g c =
     let s = c.offer_next.new.self in
-    λ k i. subst (λ (b : Bool). Leads (Advancing k c.advance-progress.result)
+    λ k i. subst (λ (b : Bool). ReachesMachine (Advancing k c.advance-progress.result)
     (λ j. IsSession j s.front c.advance-progress.new.self s.queue.groups.items s.sealed b))
     (sym c.has_failed-self.ensures)
     (advanced c.handed_groups_are_next.ensures.committed

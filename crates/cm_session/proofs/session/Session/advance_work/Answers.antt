@@ -16,15 +16,15 @@ loop-progress-preserved g c =
     let kept = c.loop-progress.invariant in
     let does = call.ensures in
     let working = c.is_working.ensures.is c.loop-progress-test.true in (
-      λ k goes. does.machine k
-          (goes_on k c.loop-progress.progress working (kept.0 k goes)),
+      λ k matches. does.machine k
+          (goes_on k c.loop-progress.progress working (kept.0 k matches)),
       λ again. some_left disk.view call.new.self.queue.groups.items now new call.result does.steps
           again,
-      λ k goes. leaves_on disk.view old.disk now.disk new.disk
-          (StandsForSome old.sizes k) (kept.2 k goes)
+      λ k matches. leaves_on disk.view old.disk now.disk new.disk
+          (StandsForSome old.sizes k) (kept.2 k matches)
           (subst (λ (z : Sizes). LeavesOnly disk.view now.disk new.disk
           (StandsForSome z k)) kept.4
-          (does.any_moment k (goes_on k c.loop-progress.progress working (kept.0 k goes)))),
+          (does.any_moment k (goes_on k c.loop-progress.progress working (kept.0 k matches)))),
       risen (disk.view.failures old.disk) (disk.view.failures now.disk)
           (disk.view.failures new.disk)
           c.loop-progress.progress call.result kept.3 does.cause,

@@ -3,7 +3,7 @@ use Rattle.std.specs.Prelude.{◌||◌}
 use Rattle.cm_front.specs.Front.{FrontState}
 use Rattle.cm_front.specs.Accepting.{with_learnt}
 use Rattle.cm_session.specs.declared.session.Session.{Session}
-use Rattle.cm_session.specs.Moves.{Leads, Learns}
+use Rattle.cm_session.specs.Moves.{ReachesMachine, Learns}
 use Rattle.cm_session.specs.Session.{IsSession}
 use Rattle.cm_session.proofs.Handing.{learns, on_ok}
 use Rattle.cm_session.proofs.session.Session.learn.Goals as goal
@@ -25,7 +25,7 @@ returns-clause-machine g c =
     let learnt = on_ok c.learn-known.result
     (c.learn-known.ensures.known.1 (omega (arith, sealed, number, handed)))
     c.learn-known.ensures.ok in
-    subst (λ (m : ℕ). Leads (Learns k m)
+    subst (λ (m : ℕ). ReachesMachine (Learns k m)
     (λ j. IsSession j c.learn-known.new.self n.committer n.queue.groups.items n.sealed
     n.has_failed)) (sym number)
     (learns laws.learnt laws.failed k s.front c.learn-known.new.self n.committer

@@ -1,7 +1,7 @@
 use Rattle.std.proofs.Common.{ℕ, ◌∷◌, ap, subst, sym, ◌∙◌, arith}
 use Rattle.cm_guards.specs.Stages.{calls_left}
 use Rattle.cm_commit.specs.States.{Storing, CommitterState, with_taken}
-use Rattle.cm_session.specs.Session.{commands_of, GoBehind, IsSession}
+use Rattle.cm_session.specs.Session.{commands_of, AreConsecutive, IsSession}
 use Rattle.cm_session.proofs.Handing.{on_ok}
 use Rattle.cm_session.proofs.Stepping.{takes, is_taken, no_calls, none_busy, not_none, may_take}
 use Rattle.cm_session.proofs.session.Session.offer_next.Goals as goal
@@ -20,8 +20,8 @@ returns-clause-machine g c =
     (no_calls s.committer.broken (calls_left s.committer.left) c.steps_left.result
     c.steps_left.ensures sound (omega (arith, zero))) in
     let same = c.join_queued-group.ensures.commands ∙ sym (ap commands_of items) in
-    let joined : (n : ℕ) → GoBehind n s.queue.groups.items → GoBehind n (group ∷ rest) =
-    (λ n b. c.join_queued-group.ensures.behind n (subst (GoBehind n) items b)) in
+    let joined : (n : ℕ) → AreConsecutive n s.queue.groups.items → AreConsecutive n (group ∷ rest) =
+    (λ n b. c.join_queued-group.ensures.behind n (subst (AreConsecutive n) items b)) in
     let may = is_taken law k s.front s.committer s.queue.groups.items rest s.sealed s.has_failed
     group i none same joined sound in
     let taken = on_ok c.offer-taken.result (c.offer-taken.ensures.takes.1 may)
@@ -47,8 +47,8 @@ returns-clause-taken g c =
     (no_calls s.committer.broken (calls_left s.committer.left) c.steps_left.result
     c.steps_left.ensures sound (omega (arith, zero))) in
     let same = c.join_queued-group.ensures.commands ∙ sym (ap commands_of items) in
-    let joined : (n : ℕ) → GoBehind n s.queue.groups.items → GoBehind n (group ∷ rest) =
-    (λ n b. c.join_queued-group.ensures.behind n (subst (GoBehind n) items b)) in
+    let joined : (n : ℕ) → AreConsecutive n s.queue.groups.items → AreConsecutive n (group ∷ rest) =
+    (λ n b. c.join_queued-group.ensures.behind n (subst (AreConsecutive n) items b)) in
     let may = is_taken law k s.front s.committer s.queue.groups.items rest s.sealed s.has_failed
     group i none same joined sound in
     let taken = on_ok c.offer-taken.result (c.offer-taken.ensures.takes.1 may)

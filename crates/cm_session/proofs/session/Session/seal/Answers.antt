@@ -17,7 +17,7 @@ returns-then-number-self-clause-machine g c =
             (sym c.number.ensures ∙ c.if-number-self.true),
         refl,
       );
-      goes = subst (λ (q : List Handed). IsSession k s.front s.committer q s.sealed s.has_failed)
+      matches = subst (λ (q : List Handed). IsSession k s.front s.committer q s.sealed s.has_failed)
           (sym c.reserve.ensures.items) i;
     }
 
@@ -32,7 +32,7 @@ returns-else-number-self-clause-machine g c =
             (λ e. c.if-number-self.false (c.number.ensures ∙ e)),
         refl,
       );
-      goes = subst (λ (q : List Handed). IsSession k s.front s.committer q s.sealed s.has_failed)
+      matches = subst (λ (q : List Handed). IsSession k s.front s.committer q s.sealed s.has_failed)
           (sym c.reserve.ensures.items) i;
     }
 
@@ -70,7 +70,8 @@ returns-in_default-clause-machine g c =
             s.queue.groups.items s.sealed s.has_failed i none.0,
         refl,
       );
-      goes = subst (λ (f : FrontState). IsSession k f s.committer c.reserve.new.self.items s.sealed
+      matches = subst (λ (f : FrontState). IsSession k f s.committer c.reserve.new.self.items
+          s.sealed
           s.has_failed) (sym none.1)
           (subst (λ (q : List Handed). IsSession k s.front s.committer q s.sealed s.has_failed)
           (sym c.reserve.ensures.items) i);

@@ -1,8 +1,8 @@
 use Rattle.std.proofs.Common.{Err, subst, sym, ◌∙◌}
 use Rattle.cm_guards.specs.Calls.{LeavesOnly}
-use Rattle.cm_prepare.specs.Commands.{change_asked}
+use Rattle.cm_commands.specs.Commands.{change_asked}
 use Rattle.cm_commit.specs.States.{CommitterState}
-use Rattle.cm_machine.specs.Machine.{Machine}
+use Rattle.cm_commands.specs.Machine.{Machine}
 use Rattle.cm_session.specs.Images.{StandsForSome}
 use Rattle.cm_session.specs.declared.storing.NotStored.TheVariants.{Unsure}
 use Rattle.cm_session.specs.Storing.{FailsOnly}
@@ -13,38 +13,38 @@ use Rattle.cm_session.proofs.session.Session.store.Goals as goal
 pub returns-in-Err-clause-machine : goal.returns-in-Err-clause-machine
 returns-in-Err-clause-machine g c =
     let s = c.args.self.now in
-    λ k goes rest.
+    λ k matches rest.
     refuses s.committer.sizes k (change_asked c.args.command)
     (LeavesOnly g.D.Disk.view s.committer.disk
     c.accept.new.self.committer.disk)
-    c.in-Err.refusal rest (c.in-Err.ensures.machine k goes)
+    c.in-Err.refusal rest (c.in-Err.ensures.machine k matches)
 
 pub returns-then-is_err-clause-machine : goal.returns-then-is_err-clause-machine
 returns-then-is_err-clause-machine g c =
     let sizes = c.args.self.now.committer.sizes in
-    λ k goes rest.
-    let a = c.in-Ok.ensures.machine k goes in
+    λ k matches rest.
+    let a = c.in-Ok.ensures.machine k matches in
     no_place c.seal.result c.if-is_err.ensures.value
-    (c.seal.ensures.place a.leads.next a.leads.goes
-    (all_stored sizes k a.change c.in-Ok.number a.leads.next rest a.leads.does))
+    (c.seal.ensures.place a.reaches.next a.reaches.matches
+    (all_stored sizes k a.change c.in-Ok.number a.reaches.next rest a.reaches.does))
 
 pub returns-then-is_err-clause-cause : goal.returns-then-is_err-clause-cause
 returns-then-is_err-clause-cause g c =
     let sizes = c.args.self.now.committer.sizes in
-    λ k goes rest.
-    let a = c.in-Ok.ensures.machine k goes in
+    λ k matches rest.
+    let a = c.in-Ok.ensures.machine k matches in
     no_place c.seal.result c.if-is_err.ensures.value
-    (c.seal.ensures.place a.leads.next a.leads.goes
-    (all_stored sizes k a.change c.in-Ok.number a.leads.next rest a.leads.does))
+    (c.seal.ensures.place a.reaches.next a.reaches.matches
+    (all_stored sizes k a.change c.in-Ok.number a.reaches.next rest a.reaches.does))
 
 pub returns-then-is_err-clause-told : goal.returns-then-is_err-clause-told
 returns-then-is_err-clause-told g c =
     let sizes = c.args.self.now.committer.sizes in
-    λ k goes rest.
-    let a = c.in-Ok.ensures.machine k goes in
+    λ k matches rest.
+    let a = c.in-Ok.ensures.machine k matches in
     no_place c.seal.result c.if-is_err.ensures.value
-    (c.seal.ensures.place a.leads.next a.leads.goes
-    (all_stored sizes k a.change c.in-Ok.number a.leads.next rest a.leads.does))
+    (c.seal.ensures.place a.reaches.next a.reaches.matches
+    (all_stored sizes k a.change c.in-Ok.number a.reaches.next rest a.reaches.does))
 
 pub returns-in-Ok-progress-clause-machine : goal.returns-in-Ok-progress-clause-machine
 returns-in-Ok-progress-clause-machine g c =
@@ -52,16 +52,16 @@ returns-in-Ok-progress-clause-machine g c =
     let disk = g.D.Disk in
     let sizes = s.committer.sizes in
     let left = c.learn.new.self.committer.disk in
-    λ k goes rest.
-    let a = c.in-Ok.ensures.machine k goes in
-    let accepted = a.leads.next in
-    let answers = a.leads.does in
+    λ k matches rest.
+    let a = c.in-Ok.ensures.machine k matches in
+    let accepted = a.reaches.next in
+    let answers = a.reaches.does in
     let number = c.in-Ok.number in
     let h : Machine = handed sizes k a.change number accepted rest answers in
     let with_it = sealed sizes k a.change number accepted rest answers c.seal.result
-    (c.seal.ensures.place accepted a.leads.goes
+    (c.seal.ensures.place accepted a.reaches.matches
     (all_stored sizes k a.change number accepted rest answers))
-    (c.seal.ensures.machine accepted a.leads.goes) in
+    (c.seal.ensures.machine accepted a.reaches.matches) in
     let same = c.seal.ensures.disk ∙ c.accept.ensures.disk in
     let moments : LeavesOnly disk.view s.committer.disk left
     (StandsForSome sizes h) =
@@ -82,16 +82,16 @@ returns-in-Err-progress-clause-machine g c =
     let disk = g.D.Disk in
     let sizes = s.committer.sizes in
     let left = c.learn.new.self.committer.disk in
-    λ k goes rest.
-    let a = c.in-Ok.ensures.machine k goes in
-    let accepted = a.leads.next in
-    let answers = a.leads.does in
+    λ k matches rest.
+    let a = c.in-Ok.ensures.machine k matches in
+    let accepted = a.reaches.next in
+    let answers = a.reaches.does in
     let number = c.in-Ok.number in
     let h : Machine = handed sizes k a.change number accepted rest answers in
     let with_it = sealed sizes k a.change number accepted rest answers c.seal.result
-    (c.seal.ensures.place accepted a.leads.goes
+    (c.seal.ensures.place accepted a.reaches.matches
     (all_stored sizes k a.change number accepted rest answers))
-    (c.seal.ensures.machine accepted a.leads.goes) in
+    (c.seal.ensures.machine accepted a.reaches.matches) in
     let same = c.seal.ensures.disk ∙ c.accept.ensures.disk in
     let moments : LeavesOnly disk.view s.committer.disk left
     (StandsForSome sizes h) =
@@ -109,16 +109,16 @@ returns-in-Err-progress-clause-cause g c =
     let s = c.args.self.now in
     let failures = g.D.Disk.view.failures in
     let sizes = s.committer.sizes in
-    λ k goes rest.
-    let a = c.in-Ok.ensures.machine k goes in
-    let accepted = a.leads.next in
-    let answers = a.leads.does in
+    λ k matches rest.
+    let a = c.in-Ok.ensures.machine k matches in
+    let accepted = a.reaches.next in
+    let answers = a.reaches.does in
     let number = c.in-Ok.number in
     let h : Machine = handed sizes k a.change number accepted rest answers in
     let with_it = sealed sizes k a.change number accepted rest answers c.seal.result
-    (c.seal.ensures.place accepted a.leads.goes
+    (c.seal.ensures.place accepted a.reaches.matches
     (all_stored sizes k a.change number accepted rest answers))
-    (c.seal.ensures.machine accepted a.leads.goes) in
+    (c.seal.ensures.machine accepted a.reaches.matches) in
     let same = c.seal.ensures.disk ∙ c.accept.ensures.disk in
     let now = failures c.advance_group-progress.new.self.committer.disk in
     subst (λ (d : CommitterState _). FailsOnly (failures s.committer.disk) (failures d.disk)
@@ -131,25 +131,25 @@ returns-in-Err-progress-clause-cause g c =
 pub returns-in-Ok-progress-clause-told : goal.returns-in-Ok-progress-clause-told
 returns-in-Ok-progress-clause-told g c =
     let sizes = c.args.self.now.committer.sizes in
-    λ k goes rest.
-    let a = c.in-Ok.ensures.machine k goes in
-    let h = handed sizes k a.change c.in-Ok.number a.leads.next rest a.leads.does in
-    let with_it = sealed sizes k a.change c.in-Ok.number a.leads.next rest a.leads.does
-    c.seal.result (c.seal.ensures.place a.leads.next a.leads.goes
-    (all_stored sizes k a.change c.in-Ok.number a.leads.next rest a.leads.does))
-    (c.seal.ensures.machine a.leads.next a.leads.goes) in
+    λ k matches rest.
+    let a = c.in-Ok.ensures.machine k matches in
+    let h = handed sizes k a.change c.in-Ok.number a.reaches.next rest a.reaches.does in
+    let with_it = sealed sizes k a.change c.in-Ok.number a.reaches.next rest a.reaches.does
+    c.seal.result (c.seal.ensures.place a.reaches.next a.reaches.matches
+    (all_stored sizes k a.change c.in-Ok.number a.reaches.next rest a.reaches.does))
+    (c.seal.ensures.machine a.reaches.next a.reaches.matches) in
     let stored = c.in-Ok-progress.ensures.machine h with_it in
-    c.learn.ensures.told stored.next stored.goes
+    c.learn.ensures.told stored.next stored.matches
 
 pub returns-in-Err-progress-clause-told : goal.returns-in-Err-progress-clause-told
 returns-in-Err-progress-clause-told g c =
     let sizes = c.args.self.now.committer.sizes in
-    λ k goes rest.
-    let a = c.in-Ok.ensures.machine k goes in
-    let h = handed sizes k a.change c.in-Ok.number a.leads.next rest a.leads.does in
-    let with_it = sealed sizes k a.change c.in-Ok.number a.leads.next rest a.leads.does
-    c.seal.result (c.seal.ensures.place a.leads.next a.leads.goes
-    (all_stored sizes k a.change c.in-Ok.number a.leads.next rest a.leads.does))
-    (c.seal.ensures.machine a.leads.next a.leads.goes) in
+    λ k matches rest.
+    let a = c.in-Ok.ensures.machine k matches in
+    let h = handed sizes k a.change c.in-Ok.number a.reaches.next rest a.reaches.does in
+    let with_it = sealed sizes k a.change c.in-Ok.number a.reaches.next rest a.reaches.does
+    c.seal.result (c.seal.ensures.place a.reaches.next a.reaches.matches
+    (all_stored sizes k a.change c.in-Ok.number a.reaches.next rest a.reaches.does))
+    (c.seal.ensures.machine a.reaches.next a.reaches.matches) in
     let lost = c.in-Err-progress.ensures.machine h with_it in
-    c.learn.ensures.told lost.next lost.goes
+    c.learn.ensures.told lost.next lost.matches

@@ -1,5 +1,5 @@
 use Rattle.std.proofs.Common.{◌≡◌, [], sym, ap, ◌∙◌, subst}
-use Rattle.cm_space.specs.Space.{with_arena, state_of}
+use Rattle.cm_space.specs.Space.{with_arena, space_state}
 use Rattle.cm_space.specs.Ownership.{IsSpace}
 use Rattle.cm_space.proofs.Spaces.{added}
 use Rattle.cm_space.proofs.Views.{more, not_known}
@@ -7,7 +7,7 @@ use Rattle.cm_space.proofs.space.Space.add_loader.Goals as goal
 use Rattle.cm_space.proofs.space.Space.add_loader.Goals.{In_ok-insert}
 
 new : (c : In_ok-insert)
-    → state_of c.self.inside.pool c.insert.new.self.entries c.self.inside.waiting.items
+    → space_state c.self.inside.pool c.insert.new.self.entries c.self.inside.waiting.items
     ≡ with_arena c.args.self.now c.args.loader []
 new c =
     let a = c.self.inside in

@@ -1,12 +1,12 @@
--- The arena is lent, takes the place over, and is put back.
+-- The arena is borrowed, adopts the place, and is put back.
 use Rattle.std.proofs.Common.{◌≡◌, Bool, true, false, cond, List, ◌++◌, Result, Ok, Err, IfOk}
 use Rattle.std.proofs.Common.{OnErr, MatchResult, IsSome, IsTrue, ◌↔◌, refl, sym, ap, ◌∙◌, subst}
 use Rattle.std.specs.Option.{option_copied_mut}
 use Rattle.cm_pool.specs.FreeSpace.{FreeSpace}
 use Rattle.cm_pool.specs.Held.{AreHeld}
-use Rattle.cm_arena.specs.Chains.{Filled, chunks_of}
+use Rattle.cm_arena.specs.Chains.{Filled, chain_chunks}
 use Rattle.cm_arena.specs.Placing.{with_place}
-use Rattle.cm_space.specs.Space.{SpaceState, arena_of, with_arena, state_of}
+use Rattle.cm_space.specs.Space.{SpaceState, arena_of, with_arena, space_state}
 use Rattle.cm_space.specs.Ownership.{IsSpace}
 use Rattle.cm_space.specs.Adopting.{IsAdoptable, pool_after, adopted}
 use Rattle.cm_space.proofs.Spaces.{KeepsOthers, taken-apart, beside}
@@ -42,7 +42,7 @@ adopt_place-requires c =
     let now = c.args.self.now in
     let chain = c.unwrap.result.now in (
       beside now c.args.loader,
-      subst (λ (p : FreeSpace). AreHeld p (chunks_of chain ++ beside now c.args.loader))
+      subst (λ (p : FreeSpace). AreHeld p (chain_chunks chain ++ beside now c.args.loader))
           (sym (pool at))
           (taken-apart now c.args.loader chain (lent at chain).had
           (subst IsSpace c.self.view_is c.self.invariant)),
@@ -60,7 +60,7 @@ invariant_of-self c =
     (answer-keeps c.adopt_place.result c.self.inside.pool c.adopt_place.new.pool chain
     c.adopt_place.new.arena c.args.place e.next e.arena e.pool))
 
--- what is said of the arena and the pool holds of those of the space
+-- what holds for the arena and the pool holds for those of the space
 of_space : (c : After-unwrap) (P : List Filled → FreeSpace → Type 0)
     → P c.unwrap.result.now c.self.inside.pool
     → P (arena_of c.args.self.now c.args.loader) c.args.self.now.pool
@@ -93,7 +93,7 @@ returns-clause-left c =
     by_answer : (at : After-unwrap) {next : List Filled} {q : FreeSpace} (taken : Bool)
         → next ≡ cond taken (with_place at.unwrap.result.now at.args.place) at.unwrap.result.now
         → q ≡ cond taken (pool_after at.self.inside.pool at.args.place) at.self.inside.pool
-        → state_of q (at.get_mut.follows.lender next).entries at.self.inside.waiting.items
+        → space_state q (at.get_mut.follows.lender next).entries at.self.inside.waiting.items
         ≡ cond taken (adopted at.args.self.now at.args.loader at.args.place) at.args.self.now
     by_answer at {next} {q} true arena left =
         let s = at.args.self.now in

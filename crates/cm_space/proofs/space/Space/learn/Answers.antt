@@ -1,5 +1,5 @@
 use Rattle.std.proofs.Common.{◌≡◌, sym, subst}
-use Rattle.cm_space.specs.Space.{state_of, learnt}
+use Rattle.cm_space.specs.Space.{space_state, learnt}
 use Rattle.cm_space.specs.Ownership.{IsSpace}
 use Rattle.cm_space.proofs.Spaces.{learned, waiting-held}
 use Rattle.cm_space.proofs.space.Space.learn.Goals as goal
@@ -7,13 +7,13 @@ use Rattle.cm_space.proofs.space.Space.learn.Goals as goal
 pub free_due-requires-clause-held : goal.free_due-requires-clause-held
 free_due-requires-clause-held c =
     let a = c.self.inside in
-    waiting-held (state_of a.pool a.arenas.entries a.waiting.items) c.self.invariant
+    waiting-held (space_state a.pool a.arenas.entries a.waiting.items) c.self.invariant
 
 pub invariant_of-self : goal.invariant_of-self
 invariant_of-self c =
     let a = c.self.inside in
-    let old = state_of a.pool a.arenas.entries a.waiting.items in
-    let is : state_of c.free_due.new.pool a.arenas.entries c.free_due.new.waiting.items
+    let old = space_state a.pool a.arenas.entries a.waiting.items in
+    let is : space_state c.free_due.new.pool a.arenas.entries c.free_due.new.waiting.items
     ≡ learnt old c.args.number =
     λ i. record {
       pool = c.free_due.ensures.pool i;

@@ -1,5 +1,5 @@
 use Rattle.std.proofs.Common.{◌≡◌, ap, ◌∙◌, sym, subst}
-use Rattle.cm_space.specs.Space.{SpaceState, IsKnown, left_by, state_of}
+use Rattle.cm_space.specs.Space.{SpaceState, IsKnown, left_by, space_state}
 use Rattle.cm_space.specs.Ownership.{IsSpace}
 use Rattle.cm_space.proofs.Spaces.{left}
 use Rattle.cm_space.proofs.space.Space.leave.Goals as goal
@@ -10,12 +10,12 @@ leave_one-requires-clause-known c =
     subst (λ (s : SpaceState). IsKnown s c.args.loader) (sym c.self.view_is) c.requires.known
 
 new : (c : After-leave_one)
-    → state_of c.self.inside.pool c.leave_one.new.arenas.entries c.leave_one.new.waiting.items
+    → space_state c.self.inside.pool c.leave_one.new.arenas.entries c.leave_one.new.waiting.items
     ≡ left_by c.args.self.now c.args.number c.args.loader
 new c =
     let a = c.self.inside in
     c.leave_one.ensures.left a.pool
-    ∙ ap (λ ws. left_by (state_of a.pool a.arenas.entries ws) c.args.number c.args.loader)
+    ∙ ap (λ ws. left_by (space_state a.pool a.arenas.entries ws) c.args.number c.args.loader)
     c.reserve.ensures.items
     ∙ ap (λ s. left_by s c.args.number c.args.loader) c.self.view_is
 

@@ -1,6 +1,6 @@
 use Rattle.std.proofs.Common.{◌≡◌, ap, ◌∙◌, sym, subst}
 use Rattle.std.specs.List.{AllByRecursion}
-use Rattle.cm_space.specs.Space.{SpaceState, IsKnown, left_by_all, state_of}
+use Rattle.cm_space.specs.Space.{SpaceState, IsKnown, left_by_all, space_state}
 use Rattle.cm_space.specs.Ownership.{IsSpace}
 use Rattle.cm_space.proofs.Spaces.{left-all}
 use Rattle.cm_space.proofs.space.Space.leave_all.Goals as goal
@@ -12,12 +12,13 @@ leave_each-requires-clause-known c =
     (sym c.self.view_is) c.requires.known
 
 new : (c : After-leave_each)
-    → state_of c.self.inside.pool c.leave_each.new.arenas.entries c.leave_each.new.waiting.items
+    → space_state c.self.inside.pool c.leave_each.new.arenas.entries c.leave_each.new.waiting.items
     ≡ left_by_all c.args.self.now c.args.number c.args.loaders.now
 new c =
     let a = c.self.inside in
     c.leave_each.ensures a.pool
-    ∙ ap (λ ws. left_by_all (state_of a.pool a.arenas.entries ws) c.args.number c.args.loaders.now)
+    ∙ ap (λ ws. left_by_all (space_state a.pool a.arenas.entries ws) c.args.number
+    c.args.loaders.now)
     c.reserve.ensures.items
     ∙ ap (λ s. left_by_all s c.args.number c.args.loaders.now) c.self.view_is
 

@@ -1,4 +1,4 @@
--- The arena is lent, finds a place, and is put back.
+-- The arena is borrowed, finds a place, and is put back.
 use Rattle.std.proofs.Common.{◌≡◌, List, Result, Ok, Err, OnOk, IsSome, refl, sym, ap, ◌∙◌, subst}
 use Rattle.std.proofs.Common.{◌↔◌, IsErrOf}
 use Rattle.std.specs.Option.{option_copied_mut}
@@ -6,7 +6,7 @@ use Rattle.std.proofs.lemmas.Result.{IfOk-weaker, on_err_weaker}
 use Rattle.cm_pool.specs.declared.place.Place.{Place}
 use Rattle.cm_pool.specs.FreeSpace.{FreeSpace}
 use Rattle.cm_pool.specs.Lists.{Among}
-use Rattle.cm_arena.specs.Chains.{Filled, chunks_of}
+use Rattle.cm_arena.specs.Chains.{Filled, chain_chunks}
 use Rattle.cm_arena.specs.Placing.{Places, IsFull, HasRoom}
 use Rattle.cm_arena.specs.declared.refusal.PlaceRefusal as refusal
 use Rattle.cm_space.specs.Space.{SpaceState, arena_of}
@@ -37,7 +37,7 @@ lent c next =
 pool : (c : After-place) → c.self.inside.pool ≡ c.args.self.now.pool
 pool c = ap (λ (s : SpaceState). s.pool) c.self.view_is
 
--- what a clause of the arena says of its chain and the pool holds of those of the space
+-- what a clause of the arena says about its chain and the pool holds for those of the space
 of_space : (c : After-place) → arena_of c.args.self.now c.args.loader ≡ c.unwrap-arena.result.now
     → (P : List Filled → FreeSpace → Type 0) → P c.unwrap-arena.result.now c.self.inside.pool
     → P (arena_of c.args.self.now c.args.loader) c.args.self.now.pool
@@ -88,7 +88,7 @@ returns-clause-inside c =
     lent-after c.place.new.pool
     (lent (goal.at.returns-clause-inside c).After-unwrap-arena c.place.new.self) in
     IfOk-weaker c.place.result _ _ (λ (place : Place) h.
-    (h.0, subst (λ (new : List Filled). Among place.chunk (chunks_of new)) (sym after) h.1))
+    (h.0, subst (λ (new : List Filled). Among place.chunk (chain_chunks new)) (sym after) h.1))
     c.place.ensures.inside
 
 pub returns-clause-full : goal.returns-clause-full

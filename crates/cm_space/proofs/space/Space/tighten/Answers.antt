@@ -1,11 +1,11 @@
--- The arena is lent, its tail moves, and the chunk left waits.
+-- The arena is borrowed, its last chunk's words move, and the old chunk waits.
 use Rattle.std.proofs.Common.{◌≡◌, List, [], ◌∷◌, ◌++◌, IsSome, refl, sym, ap, ◌∙◌, subst}
 use Rattle.std.specs.Option.{option_copied_mut}
 use Rattle.cm_pool.specs.FreeSpace.{FreeSpace}
 use Rattle.cm_pool.specs.Held.{AreHeld, NoneIsLost}
-use Rattle.cm_arena.specs.Chains.{Filled, chunks_of}
+use Rattle.cm_arena.specs.Chains.{Filled, chain_chunks}
 use Rattle.cm_arena.specs.Tightening.{IsTight, Tightens}
-use Rattle.cm_space.specs.Space.{SpaceState, WaitingChunks, arena_of, with_arena, state_of}
+use Rattle.cm_space.specs.Space.{SpaceState, WaitingChunks, arena_of, with_arena, space_state}
 use Rattle.cm_space.specs.Space.{waits_in}
 use Rattle.cm_space.specs.Ownership.{IsSpace}
 use Rattle.cm_space.proofs.Spaces.{tightened}
@@ -16,7 +16,7 @@ use Rattle.cm_space.proofs.space.Space.tighten.Goals.{After-unwrap-chain, After-
 pub returns-then-is_tight-clause-ok : goal.returns-then-is_tight-clause-ok
 returns-then-is_tight-clause-ok c =
     let a = c.self.inside in
-    let view = ap (state_of a.pool a.arenas.entries) c.reserve_left.ensures.items
+    let view = ap (space_state a.pool a.arenas.entries) c.reserve_left.ensures.items
     ∙ c.self.view_is in (
       subst (λ (s : SpaceState). IsTight (arena_of s c.args.loader) s.pool) view
           (c.is_tight.ensures.tight.0 c.if-is_tight.true),
@@ -26,7 +26,7 @@ returns-then-is_tight-clause-ok c =
 pub returns-else-is_tight-clause-err : goal.returns-else-is_tight-clause-err
 returns-else-is_tight-clause-err c =
     let a = c.self.inside in
-    let view = ap (state_of a.pool a.arenas.entries) c.reserve_left.ensures.items
+    let view = ap (space_state a.pool a.arenas.entries) c.reserve_left.ensures.items
     ∙ c.self.view_is in (
       c.is_tight.ensures.left ∙ view,
       λ tight.
@@ -57,7 +57,7 @@ lent c next =
 pool : (c : After-unwrap-chain) → c.self.inside.pool ≡ c.args.self.now.pool
 pool c = ap (λ (s : SpaceState). s.pool) c.self.view_is
 
--- what is said of the arena and the pool holds of those of the space
+-- what holds for the arena and the pool holds for those of the space
 of_space : (c : After-unwrap-chain) (P : List Filled → FreeSpace → Type 0)
     → P c.unwrap-chain.result.now c.self.inside.pool
     → P (arena_of c.args.self.now c.args.loader) c.args.self.now.pool
@@ -72,7 +72,7 @@ invariant_of-self-in_default-tighten c =
     let none = c.in_default-tighten.ensures.none in
     let entries = (c.get_mut.follows.lender c.tighten.new.self).entries in
     subst IsSpace
-    (sym (ap (state_of c.tighten.new.pool entries) c.reserve_left.ensures.items
+    (sym (ap (space_state c.tighten.new.pool entries) c.reserve_left.ensures.items
     ∙ lent-same c.tighten.new.pool (lent at c.tighten.new.self) none.1.0 (none.1.1 ∙ pool at)))
     (subst IsSpace c.self.view_is c.self.invariant)
 
@@ -82,16 +82,16 @@ returns-in_default-tighten-clause-ok c =
     let none = c.in_default-tighten.ensures.none in
     let entries = (c.get_mut.follows.lender c.tighten.new.self).entries in (
       of_space at IsTight none.0,
-      ap (state_of c.tighten.new.pool entries) c.reserve_left.ensures.items
+      ap (space_state c.tighten.new.pool entries) c.reserve_left.ensures.items
           ∙ lent-same c.tighten.new.pool (lent at c.tighten.new.self) none.1.0 (none.1.1 ∙ pool at),
     )
 
--- the chunk left, with the number that it waits for
+-- the old chunk, with the number that it waits for
 abbrev left : (c : After-wait_behind) → WaitingChunks
 left c = record { number = c.args.number; chunks = c.in-Some-tighten.moved.from ∷ [] }
 
 view_then : (c : After-wait_behind)
-    → state_of c.tighten.new.pool (c.get_mut.follows.lender c.tighten.new.self).entries
+    → space_state c.tighten.new.pool (c.get_mut.follows.lender c.tighten.new.self).entries
     c.wait_behind.new.waiting.items
     ≡ record (with_arena c.args.self.now c.args.loader c.tighten.new.self) {
       pool = c.tighten.new.pool;
@@ -116,9 +116,9 @@ invariant_of-self-2 c =
     (lent at.After-unwrap-chain next).had c.requires.last
     (subst IsSpace c.self.view_is c.self.invariant)
     (λ rest held. some.alone rest
-    (subst (λ (p : FreeSpace). AreHeld p (chunks_of chain ++ rest)) same held))
+    (subst (λ (p : FreeSpace). AreHeld p (chain_chunks chain ++ rest)) same held))
     (λ rest kept. some.none_lost rest
-    (subst (λ (p : FreeSpace). NoneIsLost p (chunks_of chain ++ rest)) same kept)))
+    (subst (λ (p : FreeSpace). NoneIsLost p (chain_chunks chain ++ rest)) same kept)))
 
 pub returns-clause-ok : goal.returns-clause-ok
 returns-clause-ok c =

@@ -3,7 +3,7 @@ use Rattle.cm_verdict.specs.Walk.{walk}
 use Rattle.cm_verdict.specs.Walking.{walked, IsSteady, IsSameWalk}
 use Rattle.cm_verdict.proofs.walk.HalfWalk.walk_all.Given as goal
 
--- what is still to walk through comes to what all of it does
+-- the slots still to walk through lead to the same result as all of them
 abbrev pub invariant-loop-turn : goal.invariant-loop-turn
 invariant-loop-turn l =
     let old = l.fn.self in

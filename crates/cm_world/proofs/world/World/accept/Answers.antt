@@ -13,14 +13,14 @@ returns c =
     λ k i.
     let m = c.accept-answer.ensures.machine k i in
     stays k e r old new c.accept-answer.ensures.disk (c.images.ensures k i) c.images-2.ensures
-    m.leads.next refl
+    m.reaches.next refl
     (record {
       result = c.accept-answer.result;
       reply_is = c.command_reply.ensures;
       change = m.change;
       asks = m.asks;
-      answers = m.leads.does;
+      answers = m.reaches.does;
       disk_stays = disk_stays k e r old new c.accept-answer.ensures.disk (c.images.ensures k i)
           c.images-2.ensures;
     })
-    m.leads.goes
+    m.reaches.matches

@@ -27,4 +27,4 @@ returns c =
           (sim_unsynced new.session.committer.disk) c.advance-answer.result) does.sizes
           does.trimmed;
     })
-    (does.any_moment k i) m.goes
+    (does.any_moment k i) m.matches

@@ -29,7 +29,7 @@ returns-clause-moved c =
       fresh = left.fresh;
     })
     (λ next o. o)
-    (one_image c.settled_has_one_image.ensures b left.fresh
+    (one_image c.durable_has_one_image.ensures b left.fresh
     (StandsForSome w.session.committer.sizes k) some) m)
     (c.open_file.ensures.opened w.session.committer.sizes (state w k) some
     (c.versions.ensures.each (sim_contents b)

@@ -21,4 +21,4 @@ returns c =
       disk_stays = disk_stays k event.Learn r old new c.learn-number.ensures.disk
           (c.images.ensures k i) c.images-2.ensures;
     })
-    m.goes
+    m.matches

@@ -1,5 +1,5 @@
 use Rattle.cm_disk.specs.Sim.{sim_contents}
-use Rattle.cm_machine.specs.Machine.{empty_machine}
+use Rattle.cm_commands.specs.Machine.{empty_machine}
 use Rattle.cm_world.proofs.Reopened.{nothing_stands, begun}
 use Rattle.cm_world.proofs.world.World.new.Goals as goal
 

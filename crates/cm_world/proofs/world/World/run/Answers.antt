@@ -21,7 +21,7 @@ loop-event-init c = (
 pub returns-in-Err-clause-fault : goal.returns-in-Err-clause-fault
 returns-in-Err-clause-fault c =
     let run = c.loop-event.invariant.0 in
-    c.in-Err.ensures.fault run.last.machine run.at.goes
+    c.in-Err.ensures.fault run.last.machine run.at.matches
 
 pub push_reserved-requires : goal.push_reserved-requires
 push_reserved-requires c =
@@ -46,7 +46,7 @@ loop-event-preserved c =
           (sym c.push_reserved.ensures.items)
           (run_more c.args.geometry c.loop-event.yielded c.loop-event.replies.items
           c.loop-event.world c.in-Ok.stepped.0 c.in-Some.event c.in-Ok.stepped.1 run
-          (c.in-Ok.ensures.moved run.last.machine run.at.goes)),
+          (c.in-Ok.ensures.moved run.last.machine run.at.matches)),
       let room = c.loop-event.invariant.1 in
           let same = c.push_reserved.ensures.capacity in
           omega (arith, room, same),

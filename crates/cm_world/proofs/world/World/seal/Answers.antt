@@ -20,4 +20,4 @@ returns c =
       disk_stays = disk_stays k event.Seal r old new c.seal-answer.ensures.disk
           (c.images.ensures k i) c.images-2.ensures;
     })
-    m.goes
+    m.matches

@@ -1,6 +1,6 @@
 use Rattle.std.proofs.Common.{subst, sym}
 use Rattle.std.specs.Prelude.{IfOk}
-use Rattle.cm_world.specs.Moves.{Moves}
+use Rattle.cm_world.specs.Moves.{EventMoves}
 use Rattle.cm_world.specs.declared.event.Event.{Event}
 use Rattle.cm_world.proofs.Chains.{same_moves}
 use Rattle.cm_world.proofs.world.World.step.Goals as goal
@@ -9,12 +9,12 @@ use Rattle.cm_world.proofs.world.World.step.Goals.{in-Learn, in-Look, in-Fault}
 
 pub returns-in-Reopen-clause-moved : goal.returns-in-Reopen-clause-moved
 returns-in-Reopen-clause-moved c =
-    λ k i. subst (λ (e : Event). IfOk c.reopen.result (λ p. Moves k e p.1 c.args.self p.0))
+    λ k i. subst (λ (e : Event). IfOk c.reopen.result (λ p. EventMoves k e p.1 c.args.self p.0))
     (sym c.in-Reopen.is) (c.reopen.ensures.moved k i)
 
 pub returns-in-Crash-clause-moved : goal.returns-in-Crash-clause-moved
 returns-in-Crash-clause-moved c =
-    λ k i. subst (λ (e : Event). IfOk c.crash.result (λ p. Moves k e p.1 c.args.self p.0))
+    λ k i. subst (λ (e : Event). IfOk c.crash.result (λ p. EventMoves k e p.1 c.args.self p.0))
     (sym c.in-Crash.is) (c.crash.ensures.moved k i)
 
 pub returns-clause-moved : goal.returns-clause-moved

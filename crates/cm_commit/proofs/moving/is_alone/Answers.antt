@@ -1,5 +1,0 @@
-use Rattle.std.proofs.Common.{[]}
-use Rattle.cm_commit.proofs.moving.is_alone.Goals as goal
-
-pub returns-in-None : goal.returns-in-None
-returns-in-None c = (λ t. absurd (cc), λ e. absurd (c.in-None.ensures [] e))

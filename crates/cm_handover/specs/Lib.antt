@@ -1,0 +1,5 @@
+pub mod Ahead
+pub mod Handover
+pub mod Carrying
+pub mod Following
+pub mod Laws

@@ -1,0 +1,10 @@
+//! The cache as an abstract machine, which the accepted cache follows: the page to read first.
+#![tactic(auto)]
+
+mod carrying;
+mod handover;
+mod laws;
+
+pub use carrying::groups_may_follow;
+pub use handover::{ahead_stays_ahead, handed_groups_are_next, opened_is_ahead};
+pub use laws::{commands_follow_the_machine, committed_rows_are_the_machines};

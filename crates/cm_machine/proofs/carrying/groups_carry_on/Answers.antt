@@ -1,9 +1,0 @@
-use Rattle.cm_machine.proofs.Carried.{handed_carries_on, joined_carries_on, carried_may_come}
-use Rattle.cm_machine.proofs.carrying.groups_carry_on.Goals as goal
-
-pub returns : goal.returns
-returns c = record {
-  handed = handed_carries_on;
-  joined = joined_carries_on;
-  next = carried_may_come;
-}

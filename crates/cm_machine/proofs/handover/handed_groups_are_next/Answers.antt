@@ -1,8 +1,0 @@
-use Rattle.cm_machine.proofs.Handed.{handed_may_be_next, committed_is_ahead}
-use Rattle.cm_machine.proofs.handover.handed_groups_are_next.Goals as goal
-
-pub returns : goal.returns
-returns c = record {
-  next = handed_may_be_next;
-  committed = committed_is_ahead c.entries_are_steps.ensures.words;
-}

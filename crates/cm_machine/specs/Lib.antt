@@ -1,6 +1,0 @@
-pub mod Ahead
-pub mod Handover
-pub mod Carrying
-pub mod Machine
-pub mod Following
-pub mod Laws

@@ -1,5 +1,0 @@
-use Rattle.cm_names.proofs.ClassNameLaws.{is_joined}
-use Rattle.cm_names.proofs.laws.class_name_is_joined_names.Goals as goal
-
-pub returns : goal.returns
-returns c = is_joined

@@ -1,5 +1,0 @@
-pub mod Refusals
-pub mod Texts
-pub mod Commands
-pub mod Prepare
-pub mod Names
