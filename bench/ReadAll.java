@@ -22,8 +22,8 @@ public final class ReadAll {
     private ReadAll() {}
 
     /**
-     * Reads one class file, and tells how many members it has: what is read must be used, or it may
-     * be left out.
+     * Reads one class file, and returns how many members it has: the result must be used, or the
+     * compiler may leave the reading out.
      */
     private interface Library {
         long members(byte[] bytes) throws IOException;

@@ -8,50 +8,49 @@ length (four bytes, big-endian).
 A PATH is a .class file, a folder that is searched for them, or a jar, as for
 examples/define_lines.py. With --only-52, files of other versions than 52.0 are left out.
 
-A hostile stream is one that would make careless code slow. Each class keeps all of the rules, but
-for `length` and those whose names end in -twice or -bootstrap:
+A hostile stream is one that would make careless code slow. Each class keeps all of the rules,
+except those of `length` and of streams whose names end in -twice or -bootstrap:
 
     fields         as many fields as the pool has room for (65,529), all named by one Utf8 of
-                   65,535 bytes; their descriptors differ, each in a slot of its own. Whoever
-                   compares fields pair by pair, or their names byte by byte, is slow
+                   65,535 bytes; their descriptors differ, each in a slot of its own. Slow for code
+                   that compares fields pair by pair, or their names byte by byte
     fields-equal   the same, but the name stands in twenty slots, byte for byte the same in each,
-                   and the fields take them in turn: that two slots are different ones says nothing
-                   of their bytes
+                   and the fields use them in turn: different slots may have equal bytes
     fields-few     32 fields, so few that they are compared pair by pair, all named by one of two
-                   Utf8s of 65,535 equal bytes: whoever compares the bytes of one slot with
-                   themselves is slow
+                   Utf8s of 65,535 equal bytes. Slow for code that compares the bytes of one slot
+                   with themselves
     fields-middle  65,535 fields, as many as there may be: pairs of 300 short names and 300 short
-                   descriptors, and two names of 65,535 bytes that differ in the middle alone.
-                   Whoever tells long names apart by their ends, and compares all where that
-                   doesn't do, is slow
+                   descriptors, and two names of 65,535 bytes that differ only in the middle.
+                   Slow for code that distinguishes long names by their ends, and compares all
+                   bytes if these are equal
     fields-middle-twice
                    the same, but the last field has the name and the descriptor of the first short
                    one again (refused)
     fields-middle-bootstrap
-                   the same, but for a BootstrapMethods with a byte too many (refused by the last
-                   rule, so whoever looks for a fault rule by rule looks through all of them)
+                   the same, with a BootstrapMethods that has a byte too many (refused by the last
+                   rule, so code that looks for a fault rule by rule goes through all of them)
     fields-meeting
                    65,535 fields: pairs of 256 names and 256 descriptors, chosen so that all of
-                   them have one fingerprint. Whoever takes that for a duplicate is wrong, whoever
-                   compares pair by pair is slow
+                   them have one fingerprint. Code that takes that for a duplicate is wrong, code
+                   that compares pair by pair is slow
     fields-all-twice
                    32,767 fields, pairs of one name with descriptors in slots of their own, and all
-                   of them again (refused): whoever looks for all duplicates in place of the first,
-                   or compares pair by pair, is slow
+                   of them again (refused). Slow for code that looks for all duplicates instead of
+                   the first, or compares pair by pair
     methods, methods-equal, methods-middle, methods-middle-twice, methods-middle-bootstrap,
     methods-meeting, methods-all-twice
                    the same with methods (native, no code)
     references     a pool full of references (65,527), by turns Methodref and InterfaceMethodref, to
-                   one NameAndType whose name and whose descriptor have 65,535 bytes each: whoever
-                   judges a Utf8 once for each reference is slow
+                   one NameAndType whose name and whose descriptor have 65,535 bytes each. Slow for
+                   code that checks a Utf8 once for each reference
     dimensions     4,000 fields whose descriptors have 255 dimensions, and 30 methods with 255 such
-                   parameters each: whoever counts dimensions or parameters again for each of them
-                   is slow
+                   parameters each. Slow for code that counts dimensions or parameters again for
+                   each of them
     dynamic        a pool full of InvokeDynamic entries (65,523), and 65,535 bootstrap methods, the
-                   last of which all of them name: whoever looks through the bootstrap methods for
-                   each of them is slow
-    length         1,000 small classes, each with an attribute whose length says FFFFFFFF: whoever
-                   asks for that much memory is refused it. The files are truncated
+                   last of which all of them name. Slow for code that goes through the bootstrap
+                   methods for each of them
+    length         1,000 small classes, each with an attribute whose length says FFFFFFFF: code that
+                   asks for that much memory doesn't get it. The files are truncated
 """
 import pathlib
 import struct

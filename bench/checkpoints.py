@@ -1,12 +1,12 @@
 #!/usr/bin/env python3
-"""Measures what checkpoints cost a command. It isn't part of the gate.
+"""Measures what checkpoints cost a command. It isn't part of CI.
 
     bench/checkpoints.py PROGRAM [COMMANDS] [ROUNDS] [FOLDER]
 
 In a cache with some live loaders, a loader is made and unloaded again, one command a group,
-COMMANDS times (20,000). With 4,096 slots in a half the journal's other half is written anew every
-this many commands; with 65,536 slots it never is, at 20,000 commands. Each row has the least of
-ROUNDS rounds (3), the two by turns, on files in FOLDER (one beside the program), which go again.
+COMMANDS times (20,000). With 4,096 slots in a half a checkpoint comes whenever a half is full; with
+65,536 slots there is none in 20,000 commands. Each row has the least of ROUNDS rounds (3), the two
+in turn, on files in FOLDER (the program's, by default), which are removed afterwards.
 The checkpoints and the device calls are counted from docs/REGION.md: a group of one command takes
 two slots and four calls, a checkpoint six calls.
 """

@@ -1,19 +1,19 @@
 #!/usr/bin/env bash
-# Measures what storing classes in a file costs, beside SQLite and LMDB, and what opening a file
-# costs, beside reading its classes. It isn't part of the gate.
+# Measures what storing classes in a file costs, compared with SQLite and LMDB, and what opening a
+# file costs, compared with reading its classes. It isn't part of CI.
 #
 #     bench/files.sh [RUNS] [FOLDER]
 #
 # cm_bench_files put defines ordinary classes (those of bench/run.sh) in a new file in FOLDER
 # (out/), one a commit and 64 a commit. The same records, as they stand in that file, are then
-# stored by SQLite (write-ahead log, synchronous=FULL), by LMDB, by the bare device calls that
+# stored by SQLite (write-ahead log, synchronous=FULL), by LMDB, by just the device calls that
 # the same commits make (bench/stores.c), and by two other choices of these calls, on the same file
-# system. Each row has the best of RUNS runs (5), and the worst for the machine's noise; all take
-# turns, so that a busy disk slows all of them.
+# system. Each row has the best of RUNS runs (5), and the worst to show the machine's noise; all
+# take turns, so that a busy disk slows all of them.
 #
 # Then files of 10,000, 20,000 and 30,000 classes (bench/many_classes.py) are read into memory and
-# opened; beside the opening are cm_bench's rows on the same classes: read_class (reading and
-# judging) and Record::read (checking records).
+# opened; next to that are cm_bench's rows on the same classes: read_class (reading and checking
+# classes) and Record::read (checking records).
 set -eu
 top=$(cd "$(dirname "${BASH_SOURCE[0]}")/.." && pwd)
 runs=${1:-5}
@@ -26,7 +26,7 @@ work=$(mktemp -d)
 folder=
 trap 'rm -rf "$work" ${folder:+"$folder"}' EXIT
 
-# shellcheck disable=SC2119 # no packages beside those that all need
+# shellcheck disable=SC2119 # no packages but those that all need
 fetch
 need_jars
 stores=(bare joined holes)

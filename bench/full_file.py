@@ -1,15 +1,15 @@
 #!/usr/bin/env python3
-"""Measures what `cmcache check` takes for files that are full of records, the longest that there
-may be among them. It isn't part of the gate.
+"""Measures what `cmcache check` takes for files that are full of records, up to the longest
+possible one. It isn't part of CI.
 
     bench/full_file.py PROGRAM [RUNS] [FOLDER] [ROOTS..]
 
-A file has the greatest sizes that there are: roots of 4 MiB, up to 256, and 65,536 slots in each
-half. In each root lie the 127 classes of one loader, one after another in one chunk, so of 256
-roots 32,768 rows live, which is as many as there may be. It is written from docs/REGION.md, and its
-records are tests/oracle.py's; nothing of the program's code is in it. Each row has the least of
-RUNS runs (3), with the file in the page cache; the files lie in FOLDER (one beside the program) and
-go again. There is one for each of ROOTS (32, 64, 128 and 256).
+A file has the greatest sizes: roots of 4 MiB, up to 256, and 65,536 slots in each half. In each
+root lie the 127 classes of one loader, one after another in one chunk, so with 256 roots 32,768
+rows are live, as many as possible. The files are written from docs/REGION.md, with the records of
+tests/oracle.py, and use none of the program's code. Each row has the least of RUNS runs (3), with
+the file in the page cache. The files lie in FOLDER (the program's, by default) and are removed
+afterwards. There is one for each of ROOTS (32, 64, 128 and 256).
 """
 import os
 import struct
@@ -84,7 +84,7 @@ def slots(roots):
 
 
 def write_file(path, records, roots):
-    """Writes the file, and tells its length."""
+    """Writes the file, and returns its length."""
     front = region.Region(oracle.Geometry(TOP, LIMIT, SLOTS)).bytes
     half = b"".join(slots(roots))
     front[region.SUPERBLOCK:region.SUPERBLOCK + len(half)] = half

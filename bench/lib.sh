@@ -6,7 +6,7 @@ packages=(libasm-java libcommons-io-java libcommons-lang3-java libguava-java
 jars=(/usr/share/java/asm{,-analysis,-commons,-tree,-util}.jar
     /usr/share/java/{commons-io,commons-lang3,guava}.jar)
 
-# fetch PACKAGE..: beside those that all need.
+# fetch PACKAGE..: these, and those that all need.
 fetch() {
     dpkg -s "${packages[@]}" "$@" >/dev/null 2>&1 && return
     { apt-get update -qq && apt-get install -y -qq "${packages[@]}" "$@"; } >&2 || true
@@ -17,7 +17,7 @@ has() {
     echo "#include <$1>" | gcc -E - >/dev/null 2>&1
 }
 
-# need_jars: ends the script where the classes aren't there.
+# need_jars: ends the script if the classes aren't there.
 need_jars() {
     local jar
     for jar in "${jars[@]}"; do

@@ -1,7 +1,7 @@
 #!/usr/bin/env python3
 """Makes many classes of a few: reads a stream of class files from standard input, each preceded by
 its length (four bytes, big-endian), and writes another one of COUNT classes. They are those of the
-input, in turn, each with a number of its own after its name, so that no name stands twice.
+input, in turn, each with a number of its own after its name, so that all names differ.
 
     bench/many_classes.py COUNT
 """

@@ -1,7 +1,7 @@
 #!/usr/bin/env python3
 """Writes the records of a region file to standard output, in the order of their commands, each
 preceded by its length in four bytes and its place in the file in eight, big-endian. docs/REGION.md
-says how such a file is read; of its journal this reads half 0 alone.
+says how such a file is read; this reads only half 0 of its journal.
 
     bench/records.py FILE
 """

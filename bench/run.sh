@@ -1,15 +1,15 @@
 #!/usr/bin/env bash
-# Measures what reading, judging and recording class files costs, and what calls of the accepted
-# cache cost, and prints two tables. It isn't part of the gate.
+# Measures what reading and checking class files and making records costs, and what calls of the
+# accepted cache cost, and prints two tables. It isn't part of CI.
 #
 #     bench/run.sh [PASSES]
 #
-# It builds cm_bench where the gate didn't, runs it over ordinary class files (version 52.0, from
+# It builds cm_bench if CI didn't, runs it over ordinary class files (version 52.0, from
 # jars of Debian packages) and over hostile ones (bench/bench_classes.py says what they are), and
 # lets mature libraries (ASM, Javassist, BCEL) read the same ordinary files whole. Each row has the
-# best of PASSES passes (20; of hostile files 3). "ratio" is the time for each byte of class file,
-# compared with the same step on ordinary files. Then cm_bench front makes its calls, the best of
-# PASSES passes, and bench/files.sh stores classes in files, beside SQLite and LMDB.
+# best of PASSES passes (20; of hostile files 3). "ratio" is the time per byte of class file,
+# relative to the same step on ordinary files. Then cm_bench front makes its calls, the best of
+# PASSES passes, and bench/files.sh compares storing classes in files with SQLite and LMDB.
 set -eu
 top=$(cd "$(dirname "${BASH_SOURCE[0]}")/.." && pwd)
 passes=${1:-20}

@@ -3,17 +3,17 @@
  *     stores sqlite|lmdb|bare|joined|holes FILE GROUP < RECORDS
  *     stores rocksdb FILE THREADS < RECORDS
  *
- * RECORDS are records one after another, each after its length in four bytes and its place in
- * the cache's file in eight, big-endian. GROUP of them make a commit, which is on the disk when it
- * returns: SQLite with a write-ahead log and synchronous=FULL, LMDB as it comes. With RocksDB each
- * of THREADS threads stores its share of the records, one a commit, synced: RocksDB itself joins
- * the commits of threads that wait. `bare` makes the device calls that a commit of the cache
- * makes, and nothing else: zeros where the file has too few roots, each record in its place, the
+ * RECORDS are records one after another, each preceded by its length in four bytes and its place in
+ * the cache's file in eight, big-endian. GROUP of them make a commit, which is durable when it
+ * returns: SQLite with a write-ahead log and synchronous=FULL, LMDB with its defaults. With RocksDB
+ * each of THREADS threads stores its share of the records, one a commit, synced: RocksDB itself
+ * joins the commits of threads that wait. `bare` makes the device calls that a commit of the cache
+ * makes, and nothing else: zeros if the file has too few roots, each record in its place, the
  * group's slots, fdatasync, the gate's byte, fdatasync. `joined` makes one write of records that
- * lie one after another, and `holes` that and grows the file without writing zeros, as the cache
- * doesn't: they tell what that would bring. It prints the records, the commits and the nanoseconds
- * of all commits together; making and opening the file isn't counted, for none of them. Each of
- * the three libraries is there where WITH_SQLITE, WITH_LMDB or WITH_ROCKSDB is defined. */
+ * lie one after another, and `holes` also grows the file without writing zeros; the cache does
+ * neither, and the two show what that would save. It prints the records, the commits and the
+ * nanoseconds of all commits together, without making and opening the file. Each of the three
+ * libraries is used if WITH_SQLITE, WITH_LMDB or WITH_ROCKSDB is defined. */
 #include <fcntl.h>
 #include <stdint.h>
 #include <stdio.h>
@@ -269,7 +269,7 @@ static void bare_open(const char *path)
     grow_to(ROOTS);
     if (fsync(file))
         fail("fsync");
-    /* Behind the half's head and the group that makes the loader. */
+    /* After the half's head and the group that makes the loader. */
     journal_end = JOURNAL + 3 * SLOT;
 }
 

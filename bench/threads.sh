@@ -1,6 +1,6 @@
 #!/usr/bin/env bash
-# Measures what it brings that several threads define classes in one file, beside LMDB and SQLite by
-# one writer, and RocksDB, which joins the commits of threads that wait. It isn't part of the gate.
+# Measures several threads that define classes in one file, compared with LMDB and SQLite with one
+# writer, and with RocksDB, which joins the commits of threads that wait. It isn't part of CI.
 #
 #     bench/threads.sh [RUNS] [FOLDER]
 #
@@ -8,11 +8,11 @@
 # bench/run.sh) in a new file in FOLDER (out/), each thread its share, one after
 # another, in a loader of its own: classes that were prepared before, and classes that each thread
 # prepares first. The other stores store the same records, one a commit (bench/stores.c). Each row
-# has the best of RUNS runs (5), and the worst for the machine's noise; all take turns. After it
-# come the syncs of the best run, and how its rate compares with LMDB's.
+# has the best of RUNS runs (5), and the worst to show the machine's noise; all take turns. Then
+# come the syncs of the best run, and its rate relative to LMDB's.
 #
 # Then one thread defines them while one other, or 16, look up classes all the time, once each. A
-# look-up takes the lock and is done: how long it takes tells how long the lock is held.
+# look-up only takes the lock: its time shows how long the lock is held.
 set -eu
 top=$(cd "$(dirname "${BASH_SOURCE[0]}")/.." && pwd)
 runs=${1:-5}

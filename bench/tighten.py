@@ -1,9 +1,9 @@
 #!/usr/bin/env python3
-"""Measures what tighten and trim give back. It isn't part of the gate.
+"""Measures how much room tighten and trim give back. It isn't part of CI.
 
     bench/tighten.py PROGRAM [CLASSES] [LOADERS] [FOLDER]
 
-A new file in FOLDER (one beside the program) gets CLASSES (20,000) classes in LOADERS (200)
+A new file in FOLDER (the program's, by default) gets CLASSES (20,000) classes in LOADERS (200)
 loaders, a class to each loader in turn; the sizes of their records are drawn (a fixed seed). Then
 each loader is tightened until the reply is `refused 8 no move`, over and over until no loader
 moves, and the file is trimmed. Printed are the bytes of the records, the bytes of the file before

@@ -1,7 +1,7 @@
 # shellcheck shell=bash
-# Sourced by what runs a program of this repository: bin/cmcache, bin/cm_simulate, the scripts of
-# tests/ and bench/. It says which executable that is: the one that was built here, if no source is
-# newer; else that of the release, if it was built from these sources, or if nobody changed a source
+# Sourced by the scripts that run a program of this repository: bin/cmcache, bin/cm_simulate, those
+# of tests/ and bench/. It finds the executable: the one that was built here, if no source is newer;
+# otherwise that of the release, if it was built from these sources, or if nobody changed a source
 # since the checkout. Changed sources are built first.
 repository=$(cd "$(dirname "$(readlink -f "${BASH_SOURCE[0]}")")/.." && pwd)
 
@@ -61,8 +61,8 @@ unpack() {
     return 1
 }
 
-# find_program NAME: prints the path of the executable to run. What is newer, what is built and what
-# goes wrong is said on standard error.
+# find_program NAME: prints the path of the executable to run. It reports newer sources, builds and
+# failures on standard error.
 find_program() {
     local made=$repository/crates/$1/out/$1
     is_built "$1" && { echo "$made"; return; }

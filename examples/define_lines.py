@@ -4,9 +4,9 @@
     examples/define_lines.py LOADER PATH.. | bin/cmcache apply --memory
 
 A PATH is a .class file, a folder that is searched for them, or a jar. Classes come in the order of
-their paths. Module and package descriptions (module-info, package-info) are classes to the file
-format only and are left out. What can't be read is told on standard error, in one line, and so is
-an output that fails; both end the script with status 1. Wrong words end it with 2.
+their paths. Module and package descriptions (module-info, package-info) are classes only to the
+file format and are left out. One line on standard error reports what can't be read, or an output
+that fails; both end the script with status 1. Wrong arguments end it with 2.
 """
 import contextlib
 import functools
@@ -25,7 +25,7 @@ class Unreadable(Exception):
 
 @contextlib.contextmanager
 def reading(path):
-    """What fails within is told of this path: of bytes that are no jar it may be any exception."""
+    """What fails inside is reported for this path: for bytes that are no jar, any exception."""
     try:
         yield
     except Exception as error:
@@ -100,7 +100,7 @@ def main(words):
     except Unreadable as fault:
         end(fault)
     except OSError as error:
-        # What isn't written goes nowhere; else Python would try again and tell of it as it ends.
+        # What isn't written is dropped; otherwise Python would try again, and report it at exit.
         os.dup2(os.open(os.devnull, os.O_WRONLY), sys.stdout.fileno())
         if not isinstance(error, BrokenPipeError):
             end(f"standard output: {error.strerror}")

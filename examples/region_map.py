@@ -7,8 +7,8 @@ LIST is what `cmcache list` prints, and TOP the order of the cache's roots (8, a
 makes them). Each root is a strip: each chunk in the colour of its loader, its used part darker,
 free space blank. The legend has the bytes used, owned and free. A list doesn't give the size of a
 chunk, so each is drawn as the least one that holds its records, which follow each other in it
-without a gap: at least so much is owned, and at most so much free. A list that can't be read ends
-the script with status 1, wrong words with 2.
+without a gap. So `owned` is a lower bound, and `free` an upper bound. A list that can't be read
+ends the script with status 1, wrong arguments with 2.
 """
 import sys
 from xml.sax.saxutils import escape

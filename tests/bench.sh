@@ -1,7 +1,7 @@
 #!/usr/bin/env bash
 # What the benchmark counts: the calls of the accepted cache, a class stored in a file and found
-# there, and what threads store at once; and that the scripts that measure run. Times aren't looked
-# at.
+# there, and what threads store at once; and that the scripts that measure run. Times aren't
+# checked.
 set -u
 cd "$(dirname "$0")/.." || exit 1
 . tests/lib.sh
@@ -14,7 +14,7 @@ status=$?
 cp tests/data/bench_front.txt "$work/want"
 check "the calls of the accepted cache" 0
 
-# What is given to the gate's own run of cm_bench: five classes, one of them right.
+# The input of CI's own run of cm_bench: five classes, one of them right.
 "$files" put "$work/file" --top 3 --roots 1 --slots 256 \
     <crates/cm_bench/stdin >"$work/got" 2>"$work/errors"
 status=$?
@@ -48,7 +48,7 @@ check_last "three classes of one are stored"
 [ "$(bench/records.py "$work/many" | wc -c)" = $((bytes + 3 * 12)) ]
 check_last "the records of a file"
 
-# The scripts that measure the program end badly where its replies aren't what they expect.
+# The scripts that measure the program fail if its replies aren't what they expect.
 measure() {
     "bench/$1" "${@:2}" >"$work/got" 2>"$work/errors"
     status=$?

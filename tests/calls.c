@@ -5,7 +5,7 @@
  * place (place, length, bytes), `s` a sync, `c` a cut (length), `r` bytes for standard output (0,
  * length, bytes). A call that fails has the letter in upper case, and the bytes that were written
  * all the same. FAIL=N lets the Nth call of `w`, `s` and `c` fail, counted from 1; a write that
- * fails stores its first STORES bytes. What comes behind it is let through. READ=N lets the Nth
+ * fails stores its first STORES bytes. What comes after it is let through. READ=N lets the Nth
  * read at a place fail. KEEP lets no file be removed.
  */
 #define _GNU_SOURCE

@@ -4,7 +4,7 @@
     tests/changed_classes.py FOLDER OUT STEP
 
 Of each class file in FOLDER, in the order of their paths, every STEP-th byte is changed in three
-ways: its lowest bit turned, set to 00, set to FF. The files OUT/0001.in and so on have at most 64
+ways: its lowest bit flipped, set to 00, set to FF. The files OUT/0001.in and so on have at most 64
 of them each, since a cache in memory has room for no more; each changed class gets a loader of its
 own, and is looked up by the name of the file that it came from.
 """

@@ -1,13 +1,13 @@
 #!/usr/bin/env python3
-"""Says of many small files, sound and damaged, what `cmcache check FILE` and `list FILE` have to
-say, and compares.
+"""Compares what `cmcache check FILE` and `list FILE` say of many small files, sound and damaged,
+with what they have to say.
 
     check.py PROGRAM COUNT SEED
 
 The first files are those of region.py; of each damaged one some bytes were changed at places drawn
 by the seed, most of them in its slots, its superblock and its records. Then comes a file that has
-an entry of each kind, of which each byte that is in use has each of some other values in turn. What
-is right is said by region.py, which shares no code with the program.
+an entry of each kind, and each byte of it that is in use gets each of some other values in turn.
+The expected output is that of region.py, which shares no code with the program.
 """
 import multiprocessing
 import os
@@ -84,8 +84,8 @@ LONG, LONGEST = b"m" * 49, b"n" * 96
 
 
 def whole_file():
-    """A file with an entry of each kind. Half 1 counts, of which two loaders and a class live; half
-    0 is an older one."""
+    """A file with an entry of each kind. Half 1 counts, in which two loaders and a class are live;
+    half 0 counted before it."""
     one, two = (oracle.read_shape(bytes.fromhex(text))[0].record() for text in (A, B))
     first, second, third = (0, 0, 0), (0, 0, 128), (0, 1, 256)
     slots = [
@@ -115,7 +115,7 @@ def whole_file():
 
 WHOLE = b"ok loaders 4 classes 3 chunks 2 number 13\n"
 
-# The slots of half 1 where the name of a loader has more bytes than need each of the values.
+# The slots of half 1 with a loader's name that has more bytes than need each of the values.
 NAME_SLOTS = 2, 3, 14, 15
 
 
@@ -140,7 +140,7 @@ def changes():
 
 
 def check_changed(program, path, some):
-    """Checks the file with each of some changes alone; tells how many were right, and which
+    """Checks the file with each of some changes by itself; returns how many were right, and which
     weren't."""
     data = whole_file()
     with open(path, "wb") as file:
@@ -164,7 +164,7 @@ def check_changed(program, path, some):
 
 
 def each_byte(program, folder):
-    """As check_changed, of all changes, on all processors."""
+    """As check_changed, for all changes, on all processors."""
     if wanted(whole_file())[0]["check"] != WHOLE:
         return 0, ["the file of each kind of entry isn't sound"]
     count = 4 * os.cpu_count()
@@ -177,7 +177,7 @@ def each_byte(program, folder):
 
 
 def drawn(program, path, count, seed):
-    """Checks and lists this many files, most of them with some bytes changed; tells how many were
+    """Checks and lists this many files, most of them with some bytes changed; returns how many were
     right, and which weren't."""
     draw = random.Random(seed)
     passed, wrong = 0, []

@@ -4,11 +4,11 @@ short at each of them.
 
     tests/device.py PROGRAM CALLS_LIBRARY
 
-Without a fault the calls are those that region.py makes of the commands, each reply after those of
-its command. With one, the replies end with the right `unsure`, no call on the file follows, and the
-file, read by region.py and looked up by another run, holds what was acknowledged. And wherever the
-machine stops, whatever becomes of the bytes that aren't synced then: what they leave is a cache
-with all that was acknowledged, and nothing that nobody asked for.
+Without a fault the calls are those that region.py derives from the commands, each reply after those
+of its command. With one, the replies end with the right `unsure`, no call on the file follows, and
+the file, read by region.py and looked up by another run, holds what was acknowledged. And wherever
+the machine stops, whatever becomes of the unsynced bytes, what is left is a cache with all that was
+acknowledged, and nothing that nobody asked for.
 """
 import os
 import random
@@ -50,8 +50,8 @@ SCRIPT = [
     b"find " + EXT + b" E",
     b"loader app",
 ]
-# So many commands come before it that the journal is written anew in the midst of it, into a half
-# that was used before.
+# As many commands come before it as make a checkpoint fall in the middle of it, into a half that
+# was used before.
 BEFORE = 248
 EIO = "Input/output error (os error 5)"
 
@@ -67,7 +67,7 @@ class Bench:
         self.log = f"{folder}/log"
 
     def run(self, words, lines=(), **names):
-        """A run under the library: what it came to, and its calls."""
+        """A run under the library: its result, and its calls."""
         if os.path.exists(self.log):
             os.remove(self.log)
         env = {"LD_PRELOAD": self.library, "CALLS": self.log,
@@ -105,7 +105,7 @@ def device_calls(calls):
 
 
 def pieces(call):
-    """How a call of region.py goes to the file."""
+    """A call of region.py as a call on the file."""
     if call is None:
         return [("s", 0, b"")]
     at, data = call
@@ -113,7 +113,7 @@ def pieces(call):
 
 
 def begun(geometry, count=0):
-    """A cache after this many commands, and its file. Nothing lives in it."""
+    """A cache after this many commands, and its file. It is empty."""
     cache, file = runs.new_cache(geometry), region.Region(geometry)
     for at in range(count):
         cache.answer(b"unload x" if at % 2 else b"loader x")
@@ -138,7 +138,7 @@ def due_calls(cache, file, lines):
 # ---- one call fails
 
 def fail_one(bench, fails, stores, due):
-    """The script with a call failing, then what is left of it in another run."""
+    """The script with a call failing, then the remaining lines in another run."""
     cache, file = begun(SMALL, BEFORE)
     path = bench.new_file(file)
     name = f"call {fails} fails, {stores} bytes stored"
@@ -157,7 +157,7 @@ def fail_one(bench, fails, stores, due):
     rest = SCRIPT[count:]
     wanted = runs.answers(cache, rest)
     ran = runs.run(bench.program, ["apply", path], rest)
-    bench.checks.check(f"{name}: the rest of the script", ran == (*wanted, ""),
+    bench.checks.check(f"{name}: the remaining lines", ran == (*wanted, ""),
                        f"{ran}, wanted {wanted}")
     runs.settle(bench.checks, f"{name}: the file after it", path, cache, None)
 
@@ -185,7 +185,7 @@ class Stopped:
             self.since.append(call)
 
     def left(self, fate):
-        """The bytes, where what isn't synced of a write came out as its fate has it; None leaves it
+        """The bytes, if what is unsynced of a write came out as its fate says; None leaves it
         unwritten."""
         data = bytearray(self.synced)
         for _, at, written in self.since:

@@ -1,5 +1,5 @@
 #!/usr/bin/env bash
-# A device that fails at each call of a script in turn, and a machine that stops at each of them:
+# A device that fails at each call of a script in turn, and a machine that stops at each of them;
 # then the file is opened again. Needs a C compiler and Python 3.
 set -u
 cd "$(dirname "$0")/.." || exit 1

@@ -1,7 +1,7 @@
 #!/usr/bin/env python3
-"""Looks whether README.md and docs/ name what is there: reads the repository at the current folder,
-prints a line for each thing named that isn't, and last how many were looked at: 'N passed, M
-failed'. Of README.md also whether its library example is code of cm_example, and whether its
+"""Checks that README.md and docs/ name only what exists: reads the repository at the current
+folder, prints a line for each thing named that doesn't exist, and last how many were checked: 'N
+passed, M failed'. Of README.md also that its library example is code of cm_example, and that its
 limits are those of the code.
 
     tests/docs.py
@@ -52,7 +52,7 @@ def crates_in(text):
 
 
 def links():
-    """Each relative link leads to a file, and to a heading of it where it names one."""
+    """Each relative link leads to a file, and to a heading of it if it names one."""
     for document in DOCUMENTS:
         for number, line in lines_of(document):
             for target, heading in re.findall(r"\]\(([^)#:]*)(?:#([^)]*))?\)", line):
@@ -87,7 +87,7 @@ def claims():
     crates = set()
     for number, line in lines_of(PROOFS):
         row = cells(line)
-        if row[2:3] == ["The edit that shows it"]:
+        if row[2:3] == ["Mutants that it refuses"]:
             is_table = True
         elif len(row) != 4:
             is_table = False
@@ -136,8 +136,8 @@ def items(crate):
 
 
 def paths():
-    """Each path crate::item or Type::name, but for those of std, names what stands in that crate,
-    or in any."""
+    """Each path crate::item or Type::name, except those of std, names what that crate has, or for a
+    type any crate."""
     there = {crate: items(crate) for crate in CRATES}
     for document in DOCUMENTS:
         for number, line in lines_of(document):
@@ -165,7 +165,7 @@ def having(kinds):
 def planted():
     """The mutants that the proofs' tables name, by their path in the audit or in a crate of
     their row: one that the row or the text above its table names, or whose type the contract names;
-    where there is none, one that has a function named there."""
+    if there is none, one that has a function named there."""
     in_gate = {crate: edits(f"crates/{crate}/must-fail") for crate in CRATES}
     in_audit = {crate: edits(f"audit/{crate}") for crate in CRATES}
     audited = {f"audit/{crate}/{name}" for crate in CRATES for name in in_audit[crate]}
@@ -180,10 +180,10 @@ def planted():
         for name in spans(named):
             there = (name in audited or name in CRATES
                      or any(name in in_gate[crate] for crate in crates))
-            yield there, f"{PROOFS}:{number}: the edit {name} {of}"
+            yield there, f"{PROOFS}:{number}: the mutant {name} {of}"
         for name in spans(behind):
             yield (any(name in in_audit[crate] for crate in crates),
-                   f"{PROOFS}:{number}: the edit {name} in the audit {of}")
+                   f"{PROOFS}:{number}: the mutant {name} in the audit {of}")
 
 
 README = TOP / "README.md"
@@ -196,7 +196,7 @@ def fenced(kind):
 
 
 def example():
-    """README.md's library example is code of cm_example, which the gate proves and runs: each of
+    """README.md's library example is code of cm_example, which CI proves and runs: each of
     its parts, between empty lines, stands there word for word, and in this order."""
     code = (TOP / "crates/cm_example/src/main.rt").read_text()
     at = 0
@@ -261,7 +261,7 @@ def main():
         looked = list(look())
         if not looked:
             failed += 1
-            print(f"FAILED: nothing to look at: {look.__doc__}")
+            print(f"FAILED: nothing to check: {look.__doc__}")
         for is_there, what in looked:
             passed += is_there
             failed += not is_there

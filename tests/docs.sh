@@ -1,7 +1,7 @@
 #!/usr/bin/env bash
-# README.md and docs/ name what is there: links, crates and files of the map, paths of items,
-# contracts, mutants, edits of each crate; README.md's library example is code of cm_example,
-# and its limits are the code's. Its commands are run by tests/readme.sh. Needs python3.
+# README.md and docs/ name only what exists: links, crates and files of the map, paths of items,
+# contracts, the mutants of each crate; README.md's library example is code of cm_example, and its
+# limits are the code's. tests/readme.sh runs its commands. Needs python3.
 set -u
 cd "$(dirname "$0")/.." || exit 1
 exec python3 tests/docs.py

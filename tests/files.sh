@@ -1,7 +1,7 @@
 #!/usr/bin/env bash
 # Caches in files: what `format` and `apply FILE` reply, the statuses they end with, and what the
 # file holds then. The replies and the bytes of each file are those of tests/oracle.py and
-# tests/region.py, which share no code with the program. Needs Python 3; where it isn't run by root,
+# tests/region.py, which share no code with the program. Needs Python 3; if root doesn't run it,
 # files without permission are the caller's own.
 set -u
 cd "$(dirname "$0")/.." || exit 1
@@ -33,7 +33,7 @@ check_file() {
 }
 
 # check_says NAME STATUS WORDS [PATH]: the words are all of standard output. With a path standard
-# error tells it, once; without one it is empty.
+# error names it, once; without one it is empty.
 check_says() {
     printf '%s\n' "$3" >"$work/want"
     check "$1" "$2"
@@ -53,7 +53,7 @@ check_size() {
     check_last "$1: $size bytes"
 }
 
-# ---- a file is made, and goes on from run to run
+# ---- a file is made, and each run continues with it
 
 cache=$work/cache
 : >"$work/in"
@@ -273,7 +273,7 @@ for gate in A4 00 FF A5; do
     check "a gate that is $gate" 1
 done
 
-# ---- files of an older version are upgraded
+# ---- files of version 1 are upgraded
 
 older() { # FILE: a file of two loaders and three classes, whose half is of the version before
     printf 'loader a\ndefine a %s\nloader b\ndefine a %s\ndefine b %s\nunload b\n' "$a" \
@@ -317,7 +317,7 @@ done
 printf 'loader last\nunload g0\nloader last\n' >"$work/in"
 printf '%s\n' 'refused 7 journal full' 'ok 129' 'ok 130' >"$work/want"
 run apply "$work/older"
-check "a full older file goes on" 1
+check "a full file of version 1 is used further" 1
 
 python3 tests/region.py opened "$work/moved" >"$work/older"
 chmod a-w "$work/older"
@@ -380,18 +380,18 @@ spoiled() {
     [ "$(python3 tests/region.py check "$work/spoiled")" = "$2" ]
     check_last "$1: the verdict"
 }
-# Slots 1 to 3 are a head, a loader and the rest of its name; so are 4 to 6; 7 and 8 are a head and
+# Slots 1 to 3 are a head, a loader and its continuation slot; so are 4 to 6; 7 and 8 are a head and
 # a loader.
-spoiled "a name without its rest" "damaged 5 2" $((4096 + 64 * 3 + 1)) '\x13'
-spoiled "a rest of another kind" "damaged 5 2" $((4096 + 64 * 3 + 1)) '\x11'
-spoiled "a rest that isn't zeros" "damaged 5 2" $((4096 + 64 * 3 + 17)) 'm'
-spoiled "a rest with another first byte" "damaged 5 2" $((4096 + 64 * 3)) '\x01'
-spoiled "a rest after a name of 48 bytes" "damaged 5 3" $((4096 + 64 * 2 + 2)) '\x30'
+spoiled "a name without its continuation slot" "damaged 5 2" $((4096 + 64 * 3 + 1)) '\x13'
+spoiled "a continuation slot of another kind" "damaged 5 2" $((4096 + 64 * 3 + 1)) '\x11'
+spoiled "a continuation slot that isn't zeros" "damaged 5 2" $((4096 + 64 * 3 + 17)) 'm'
+spoiled "a continuation slot with another first byte" "damaged 5 2" $((4096 + 64 * 3)) '\x01'
+spoiled "a continuation slot after a name of 48 bytes" "damaged 5 3" $((4096 + 64 * 2 + 2)) '\x30'
 spoiled "a space in the first slot" "damaged 6 2" $((4096 + 64 * 2 + 16)) ' '
-spoiled "a space in the rest" "damaged 6 2" $((4096 + 64 * 3 + 16)) ' '
-spoiled "7F in the rest" "damaged 6 5" $((4096 + 64 * 6 + 16)) '\x7f'
-spoiled "a rest of its own" "damaged 5 8" $((4096 + 64 * 8 + 1)) '\x16'
-spoiled "a group that ends before the rest" "damaged 5 2" $((4096 + 64 + 2)) '\x01'
+spoiled "a space in the continuation slot" "damaged 6 2" $((4096 + 64 * 3 + 16)) ' '
+spoiled "7F in the continuation slot" "damaged 6 5" $((4096 + 64 * 6 + 16)) '\x7f'
+spoiled "a continuation slot of its own" "damaged 5 8" $((4096 + 64 * 8 + 1)) '\x16'
+spoiled "a group that ends before the continuation slot" "damaged 5 2" $((4096 + 64 + 2)) '\x01'
 spoiled "a name of 97 bytes" "damaged 5 5" $((4096 + 64 * 5 + 2)) 'a'
 python3 tests/region.py new 8 64 4096 >"$work/older"
 printf '\x01' | dd of="$work/older" bs=1 seek=4098 conv=notrunc status=none
@@ -575,7 +575,7 @@ done
 run format $'\xff'
 check_status "a path that isn't UTF-8" 2 says
 [ ! -e "$work/new" ] && [ ! -e "$work/other" ]
-check_last "wrong words make no file"
+check_last "wrong arguments make no file"
 for words in --help help "format --help" "apply --help" "check --help" "list --help" \
     "help format"; do
     # shellcheck disable=SC2086
@@ -585,12 +585,12 @@ for words in --help help "format --help" "apply --help" "check --help" "list --h
 done
 run apply --help
 grep -q 'unload NAME' "$work/got" && grep -q 'tighten NAME' "$work/got"
-check_last "the help tells of each line"
+check_last "the help names each line"
 
 # ---- a file in the narrow form, where each class has a root of its own
 
-# The program made it while caches lay in memory only: it is what its disk held after the lines
-# of narrow.txt.
+# A program made it that kept caches only in memory: it is what its disk held after the lines of
+# narrow.txt.
 narrow=$work/narrow
 gzip -dc tests/data/narrow.gz >"$narrow"
 cp tests/data/narrow.txt "$work/before"

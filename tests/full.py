@@ -1,12 +1,12 @@
 #!/usr/bin/env python3
-"""Runs the program where a file can't grow: under a limit on the size of files, and on a small
+"""Runs the program while a file can't grow: under a limit on the size of files, and on a small
 tmpfs.
 
     tests/full.py PROGRAM FOLDER [tmpfs]
 
-The run ends with the right `unsure` (of `format` with `device`, and no file stays); once there is
-room, all that was acknowledged is there, and the rest of the script is done. With `tmpfs` it mounts
-some below FOLDER.
+The run ends with the right `unsure` (`format` with `device`, and no file stays); once there is
+room, all that was acknowledged is there, and the remaining lines run. With `tmpfs` it mounts some
+below FOLDER.
 """
 import contextlib
 import os
@@ -34,8 +34,8 @@ SCRIPT = [
 
 
 def run_out(checks, name, program, path, cache, cause, limit=None):
-    """The script up to where there is no more room: the lines that are left. At least one command
-    is stored."""
+    """Runs the script until there is no more room, and returns the remaining lines. At least one
+    command is stored."""
     replies, status, told = runs.run(program, ["apply", path], SCRIPT, limit=limit)
     wanted = [cache.answer(line) for line in SCRIPT[:len(replies) - 1]]
     wanted.append(b"unsure %d" % (cache.number + 1))
@@ -49,7 +49,8 @@ def go_on(checks, name, program, path, cache, rest):
     runs.settle(checks, f"{name}: the file", path, cache, rest[0])
     runs.look_up(checks, f"{name}: the classes", program, path, cache)
     ran, wanted = runs.run(program, ["apply", path], rest), runs.answers(cache, rest)
-    checks.check(f"{name}: the rest, with room", ran == (*wanted, ""), f"{ran}, wanted {wanted}")
+    checks.check(f"{name}: what is left, with room", ran == (*wanted, ""),
+                 f"{ran}, wanted {wanted}")
     runs.settle(checks, f"{name}: the file after it", path, cache, None)
 
 
@@ -59,8 +60,8 @@ def new_file(path, geometry):
 
 
 def under_limits(checks, program, folder):
-    # So many KiB, of 36 in front of the roots, which have 8 each: no room for a root, for a part of
-    # the first, and so on.
+    # The limit in KiB, with 36 before the roots, which have 8 each: no room for a root, for a part
+    # of the first, and so on.
     for geometry, limit in [(SMALL, 36), (SMALL, 37), (SMALL, 44), (SMALL, 45), (SMALL, 51),
                             (oracle.Geometry(), 600)]:
         path, cache = f"{folder}/limited", runs.new_cache(geometry)

@@ -1,6 +1,6 @@
 #!/usr/bin/env bash
 # Files that can't grow: under a limit on their size, and on a file system that is full. Needs
-# Python 3; a full file system only where a tmpfs can be mounted.
+# Python 3, and for the full file system the right to mount a tmpfs.
 set -u
 cd "$(dirname "$0")/.." || exit 1
 . tests/lib.sh

@@ -1,11 +1,12 @@
 #!/usr/bin/env python3
-"""Hostile use, with each wanted word written out: devices that fail at each call, crashes before
-and inside each call, files with one byte changed, and class files that are cut or lead nowhere.
+"""Hostile use, with each expected word written by hand: devices that fail at each call, crashes
+before and inside each call, files with one byte changed, and class files that are cut or refer to
+nothing.
 
     tests/hostile.py CMCACHE CM_SIMULATE CALLS_LIBRARY STEP
 
 Every STEPth loader of the long script is stopped; the library is made of tests/calls.c. What a
-crash may leave is not worked out here: an opening has to give some beginning of the commands, no
+crash may leave isn't computed here: an opening has to give some beginning of the commands, no
 shorter than what was acknowledged, and the classes that these commands make.
 """
 import itertools
@@ -89,7 +90,7 @@ class Quiet:
 
 
 def check_lazy_worlds(checks, simulator):
-    """A world that replies the same to each device call passes no row of that table."""
+    """A world that gives the same reply to each device call passes no row of that table."""
     for reply in "working", "idle":
         def lazy(lines, reply=reply):
             replies, status, told = simulate(simulator, lines)
@@ -112,7 +113,7 @@ class Script:
     def __init__(self, name, geometry, events, states, calls, look):
         self.name = name
         self.geometry = geometry
-        # Lines, with None where a call of the device is to be made.
+        # Lines, with None for a device call.
         self.events = events
         self.states = states
         self.calls = calls
@@ -273,7 +274,7 @@ def at_slot(slot, byte):
     return HALF + 64 * slot + byte
 
 
-# What is changed in the file of the script (or where it is cut), and the line of each command.
+# What is changed in the file of the script (or where it is cut), and the output of each command.
 CHANGES = [
     ((0, b"\x00"), "not a cache"),
     ((4095, b"\x00"), "not a cache"),
@@ -326,8 +327,8 @@ def check_changed_files(checks, program, folder):
 # ---- files that no short script leaves
 
 def check_whole_file(checks, program, folder):
-    """Half 1 counts, half 0 is an older one; three live rows, two groups, an unload and a move; two
-    of the loaders have names that take two slots."""
+    """Half 1 counts, half 0 counted before it; three live rows, two groups, an unload and a move;
+    two of the loaders have names that take two slots."""
     path = os.path.join(folder, "halves")
     with open(path, "wb") as file:
         file.write(check.whole_file())
@@ -338,7 +339,7 @@ def check_whole_file(checks, program, folder):
         ""), got)
     got = runs.run(program, ["apply", path],
                    [b"find a B", loader(b"c"), define(b"c", A), b"unload b", b"tighten a"])
-    checks.check("half 1 goes on", got == (
+    checks.check("half 1 is used further", got == (
         [b"class B flags 0021 super java/lang/Object words 16", b"ok 14", b"ok 15 A", b"ok 16",
          b"ok 17"], 0, ""), got)
     # Both records of `a` fit into one block, and what `b` left is free.
@@ -376,7 +377,7 @@ def check_odd_files(checks, program, folder):
 # ---- a file that can't be read whole
 
 def check_failing_reads(checks, program, library, folder):
-    """Each read of the file fails in turn: it is the device's fault, and nothing is made up for
+    """Each read of the file fails in turn: it is the device's fault, and nothing takes the place of
     what wasn't read."""
     path = os.path.join(folder, "unread")
     _, whole = new_file(program, path, SCRIPT)
@@ -394,7 +395,7 @@ def check_failing_reads(checks, program, library, folder):
                      f"read {failing}: {got}")
 
 
-# ---- class files that are cut, or lead nowhere
+# ---- class files that are cut, or refer to nothing
 
 def with_index(at, number):
     return A[:at] + number.to_bytes(2, "big") + A[at + 2:]

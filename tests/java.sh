@@ -1,9 +1,9 @@
 #!/usr/bin/env bash
-# Classes that the machine's Java compiler writes for version 52.0 are taken, and found again with
-# the flags and the super class that the JDK's own disassembler tells; their records tell each
-# method's max stack, max locals and code length as it does. The same classes with single bytes
-# changed get the replies that tests/oracle.py works out, which shares no code with the program; it
-# gives those of tests/vectors too. Needs a JDK (javac, javap) and Python 3.
+# Classes that the machine's Java compiler writes for version 52.0 are accepted, and found again
+# with the flags and the super class that the JDK's own disassembler prints; their records have each
+# method's max stack, max locals and code length as it prints them. The same classes with single
+# bytes changed get the replies of tests/oracle.py, which shares no code with the program; it also
+# gives those of tests/vectors. Needs a JDK (javac, javap) and Python 3.
 set -u
 cd "$(dirname "$0")/.." || exit 1
 . tests/lib.sh
@@ -41,7 +41,7 @@ for name in "${names[@]}"; do
 done
 
 run apply --memory
-# The record's length isn't the disassembler's to tell.
+# The disassembler doesn't know the record's length.
 sed -E -i 's/^(class .*) words [0-9]+$/\1/' "$work/got"
 check "${#names[@]} compiled classes" 0
 
@@ -71,7 +71,7 @@ told_methods() {
         /^ *[0-9]+: [a-z]/ { at = $1 + 0; last = $2 }'
 }
 
-# The records of these classes tell the same.
+# The records of these classes say the same.
 bench=$(find_program cm_bench)
 for name in "${names[@]}"; do told_methods "$work/classes/$name.class"; done >"$work/want"
 bench/bench_classes.py "$work/classes" | "$bench" classes --methods >"$work/got"

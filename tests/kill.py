@@ -1,5 +1,5 @@
 #!/usr/bin/env python3
-"""Kills the program at random moments while it runs scripts on a file, and looks at what the file
+"""Kills the program at random moments while it runs scripts on a file, and checks what the file
 holds then.
 
     tests/kill.py PROGRAM KILLS SEED [WORD..]
@@ -7,9 +7,9 @@ holds then.
 Each reply that came before the kill has to be the right one; the file, read by region.py, checked,
 listed and looked up by the program, has to hold all commands that were acknowledged and, of the
 others, at most the one that was being run. A kill of `trim` comes after each, and leaves the same;
-then the file is made one of the version before, and a kill comes while it is upgraded.
-The next run goes on with the file as it is. Some kills hit `format`: its file is no cache then, or
-the empty one, or there is none. The words are further ones of `apply`.
+then the file is turned into one of version 1, and a kill comes while it is upgraded. The next run
+continues with the file as it is. Some kills hit `format`: its file is no cache then, or the empty
+one, or there is none. The words are further arguments of `apply`.
 """
 import os
 import random
@@ -23,7 +23,7 @@ import oracle
 import region
 import runs
 
-# The last writes the other half of its journal anew every hundred commands or so.
+# The last makes a checkpoint every hundred commands or so.
 GEOMETRIES = [oracle.Geometry(), oracle.Geometry(top=3, roots=3, slots=2048),
               oracle.Geometry(top=3, roots=3, slots=256)]
 LINES = 400
@@ -96,9 +96,8 @@ def kill_trim(checks, program, path, cache, rng, longest):
 
 
 def made_older(path):
-    """Makes the file one of the version before, whose entries are spelled alike; not where a half's
-    epoch, or a name that takes two slots, is one that only the newer version has. Whether it is one
-    now."""
+    """Turns the file into one of version 1, whose entries have the same encoding, unless a half's
+    epoch, or a name that takes two slots, exists only in version 2. Whether it is one now."""
     file = region.read(path)
     first = file.slots * file.half
     if any(file.slot(first + place)[1] == region.REST for place in range(1, file.end)):
@@ -116,8 +115,8 @@ def made_older(path):
 
 
 def kill_moving_over(checks, program, path, cache, rng, longest):
-    """A file of the version before is listed, and so upgraded: by a run that is killed, and by
-    one that isn't."""
+    """A file of version 1 is listed, and so upgraded: by a run that is killed, and by one that
+    isn't."""
     if not made_older(path):
         return True
     killed([program, "list", path], [], rng.uniform(0, longest))
@@ -163,7 +162,7 @@ def main(program, kills, seed, further):
             if cache is None or done % KILLS_A_FILE == 0:
                 files = done // KILLS_A_FILE
                 geometry = GEOMETRIES[files % len(GEOMETRIES)]
-                # Only a file without long names can be made one of the version before.
+                # Only a file without long names can be turned into one of version 1.
                 loaders = runs.LONG_LOADERS if files % 2 else runs.LOADERS
                 cache = runs.new_cache(geometry)
                 os.remove(path)
@@ -176,7 +175,7 @@ def main(program, kills, seed, further):
             done += 1
             good = good and kill_trim(checks, program, path, cache, rng, making)
             good = good and kill_moving_over(checks, program, path, cache, rng, making)
-            # A run that ended by itself was shorter than thought.
+            # A run that ended by itself was shorter than expected.
             delay = min(longest, 1.05 * delay) if was_hit else 0.8 * delay
             if not good:
                 cache = None

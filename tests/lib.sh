@@ -20,8 +20,8 @@ check() {
     fi
 }
 
-# check_status NAME STATUS: only the status, and that standard error says something where told so by
-# a third word.
+# check_status NAME STATUS [says]: only the status; and with the third word, that there is something
+# on standard error.
 check_status() {
     if [ "$status" = "$2" ] && { [ "${3:-}" != "says" ] || [ -s "$work/errors" ]; }; then
         passed=$((passed + 1))

@@ -1,7 +1,7 @@
 #!/usr/bin/env bash
 # Files that are far longer than their caches: what lies after the last root that the sizes allow
 # is ignored and isn't read, so a file's length doesn't decide how much memory is taken. Each file
-# is sparse, of 64 GiB, and the program has 256 MiB for all of its memory.
+# is sparse and has 64 GiB; the program has 256 MiB of memory.
 set -u
 cd "$(dirname "$0")/.." || exit 1
 . tests/lib.sh
@@ -14,13 +14,13 @@ a=cafebabe0000003400050700020100014107000401
 a+=00106a6176612f6c616e672f4f626a6563740021000100030000000000000000
 b=${a/01000141/01000142}
 
-# limited WORD..: the program on $work/in, with so much memory.
+# limited WORD..: the program on $work/in, with that much memory.
 limited() {
     (ulimit -v "$memory" && exec "$built" "$@") <"$work/in" >"$work/got" 2>"$work/errors"
     status=$?
 }
 
-# same NAME WORD: the program answers of the long file what it answers of the short one.
+# same NAME WORD: the program replies the same for the long file as for the short one.
 same() {
     limited "$2" "$work/short"
     cp "$work/got" "$work/want"
@@ -67,7 +67,7 @@ check_last "a script writes the same to both files"
 same "check after the script" check
 same "list after the script" list
 
-# ---- what is no cache, and what is damaged, however long
+# ---- files that are no cache or damaged, however long
 
 printf 'CMCACHE1' >"$work/short"
 truncate -s 4096 "$work/short"
@@ -87,7 +87,7 @@ lengthen
 same "check of a damaged head" check
 same "apply to a damaged head" apply
 
-# ---- nor can a superblock ask for more than its sizes give
+# ---- nor can a superblock make the program read more than its sizes allow
 
 : >"$work/in"
 limited format "$work/large" --top 12 --roots 256 --slots 65536

@@ -72,6 +72,6 @@ rm "$work/list"
 draw
 refused "a missing list" "No such file"
 draw x
-check_status "wrong words" 2 says
+check_status "a usage error" 2 says
 
 finish

@@ -1,8 +1,8 @@
 #!/usr/bin/env bash
-# Failed allocations in programs. Each runs once for each of its allocations, with that one refused,
-# up to the first run that meets no refusal; each run has to say so or to do what it was asked, and
-# the number of refusals has to be what it is. And what a class file's counts claim falsely is never
-# asked for.
+# Failed allocations in programs. Each program runs once for each of its allocations, with that one
+# refused, up to the first run without a refusal; each run has to report it or to do what it was
+# asked, and the number of refusals has to be the expected one. And false counts in a class file
+# never lead to a large allocation.
 #
 # Needs a C compiler and Python 3.
 
@@ -13,7 +13,7 @@ cd "$(dirname "$0")/.." || exit 1
 . tests/lib.sh
 . tests/sweeps.sh
 
-# The program's own: making a file, and scripts with commands that are done, refused, and looked up,
+# The program: making a file, and scripts with commands that are accepted and refused, and look-ups,
 # in memory and on a file.
 a=cafebabe0000003400050700020100014107000401
 a+=00106a6176612f6c616e672f4f626a6563740021000100030000000000000000
@@ -31,14 +31,14 @@ sweep_program() {
 beside sweep_program "$work/script" 383 apply --memory
 beside sweep_program "$work/script" 383 apply FILE
 beside sweep_program "$work/script" 91 format FILE
-# Opening a file alone, and looking at it.
+# Only opening a file, and checking it.
 beside sweep_program /dev/null 316 apply FILE
 beside sweep_program /dev/null 236 check FILE
 beside sweep_program /dev/null 395 list FILE
 # The same for a cache that is started for threads: what they share, and the flusher's thread.
 beside sweep_program /dev/null 336 apply FILE --workers 2
 beside sweep_program "$work/script" 419 apply FILE --workers 2
-# The same by the library alone: one thread makes a loader and defines a class.
+# The same with the library only: one thread makes a loader and defines a class.
 files=$(find_program cm_bench_files)
 sweep_threads() {
     WORK=$work tests/refused_memory.py "$files" "$library" "$1" threads FILE --threads 1
@@ -48,8 +48,8 @@ beside sweep_threads 352
 end_sweeps
 
 bench=$(find_program cm_bench)
-# asks NAME HEX: reading, judging and recording this class asks for no more than 4,096 bytes at
-# once, though it claims more; the words of the program's two verbs take 2,688.
+# asks NAME HEX: reading and checking this class, and making its record, asks for no more than 4,096
+# bytes at once, though it claims more; the words of the program's two verbs take 2,688.
 asks() {
     local length=$((${#2} / 2)) status most
     printf '%08x%s' "$length" "$2" >"$work/hex"

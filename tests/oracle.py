@@ -1,12 +1,12 @@
 #!/usr/bin/env python3
-"""Replies to a script for `cmcache apply --memory`, worked out apart from the program.
+"""Replies to a script for `cmcache apply --memory`, computed independently of the program.
 
     tests/oracle.py < SCRIPT > REPLIES
 
 It is written from the project's description of lines, faults, rules, records and chunks and from
-JVMS SE 8, chapter 4, and shares no code with the program. It knows of no device, and takes all the
-memory that it wants: no reply is `unsure`, and none is a refusal 9 or 10. What a file holds after a
-script is region.py's part.
+JVMS SE 8, chapter 4, and shares no code with the program. It has no device, and as much memory as
+it needs: no reply is `unsure`, and none is a refusal 9 or 10. region.py says what a file holds
+after a script.
 """
 import re
 import sys
@@ -32,7 +32,7 @@ UTF8, INTEGER, FLOAT, LONG, DOUBLE, CLASS, STRING = 1, 3, 4, 5, 6, 7, 8
 FIELDREF, METHODREF, INTERFACE_METHODREF, NAME_AND_TYPE = 9, 10, 11, 12
 METHOD_HANDLE, METHOD_TYPE, INVOKE_DYNAMIC = 15, 16, 18
 
-# The sizes of the numbers after each tag but that of a Utf8.
+# The sizes of the numbers after each tag except that of a Utf8.
 BODIES = {
     INTEGER: (4,), FLOAT: (4,), LONG: (8,), DOUBLE: (8,), CLASS: (2,), STRING: (2,),
     METHOD_TYPE: (2,), FIELDREF: (2, 2), METHODREF: (2, 2), INTERFACE_METHODREF: (2, 2),
@@ -58,7 +58,7 @@ class Cursor:
         return int.from_bytes(self.take(size), "big")
 
     def fixed(self, expected):
-        """Bytes that can't be others; the first wrong one is where no class file goes on."""
+        """Fixed bytes; at the first wrong one no class file continues."""
         for byte in expected:
             if self.take(1)[0] != byte:
                 raise Malformed(self.at - 1)
@@ -239,8 +239,7 @@ def is_field_descriptor(text):
 
 
 def units(text):
-    """How many units a method descriptor's parameters take; None where it is no method
-    descriptor."""
+    """How many units a method descriptor's parameters take; None if it is no method descriptor."""
     match = IS_METHOD.fullmatch(text)
     if not match:
         return None
@@ -605,7 +604,7 @@ LOADABLE = (STRING, CLASS, INTEGER, LONG, FLOAT, DOUBLE, METHOD_HANDLE, METHOD_T
 
 
 def bootstrap_rows(c, content):
-    """How many rows there are; None where the content is ill formed."""
+    """How many rows there are; None if the content is ill formed."""
     rows = int.from_bytes(content[:2], "big")
 
     def read(cursor):
@@ -637,7 +636,7 @@ RULES = [v1, v2, v3, v4, v5, v6, v7, v8, v9, v10, v11, v12, v13, v14, v15, v16, 
 
 
 def first_fault(c):
-    """The least rule that is broken, with its least spot; None where all are kept."""
+    """The first rule that is broken, with its first spot; None if all are kept."""
     for number, rule in enumerate(RULES, 1):
         for spot in rule(c):
             return f"V{number} {spot}"
@@ -673,7 +672,7 @@ def unescaped(word):
     if not ESCAPES.fullmatch(word):
         raise Refused(BAD_LINE)
     name = re.sub(rb"%(..)", lambda match: bytes([int(match.group(1), 16)]), word)
-    # An escape is taken only where the byte couldn't stand for itself.
+    # An escape is accepted only if the byte couldn't stand for itself.
     if len(escaped(name)) != len(word):
         raise Refused(BAD_LINE)
     return name
@@ -700,7 +699,7 @@ class Pool:
         return True
 
     def first_free(self, order):
-        """The first free block of an order, by root and then place; None where there is none."""
+        """The first free block of an order, by root and then place; None if there is none."""
         size = 1 << order
         block = (1 << size) - 1
         for root, free in enumerate(self.free):
@@ -753,8 +752,8 @@ class Arena:
 
 
     def tighten(self, pool):
-        """The last chunk, whose words go, and the one that they go to: the first free one of the
-        least order that holds them, if it is smaller or lies before."""
+        """The last chunk, whose words move, and the one that they move to: the first free one of
+        the least order that holds them, if it is smaller or lies before."""
         if not self.chain:
             raise Refused("8 no move")
         old, used = self.chain[-1]
@@ -781,7 +780,7 @@ class Loader:
 
 
 class Live:
-    """A class that lives: what `find` tells of it, its record and where this lies."""
+    """A live class: what `find` replies for it, its record and where this lies."""
 
     def __init__(self, told, words, chunk, offset):
         self.told = told
@@ -791,8 +790,7 @@ class Live:
 
 
 class Cache:
-    """A cache whose commands are stored one by one. Each is kept with what the journal says of
-    it."""
+    """A cache whose commands are stored one by one. Each is kept with its entry in the journal."""
 
     def __init__(self, geometry=None):
         self.geometry = geometry or Geometry()
@@ -802,7 +800,7 @@ class Cache:
         self.number = 0
 
     def reopened(self):
-        """Opened again: the roots after the last one in use aren't present any more."""
+        """Opened again: the roots after the last one in use are no longer present."""
         self.pool = Pool(self.geometry)
         for loader in self.loaders.values():
             for chunk, _ in loader.arena.chain:
@@ -814,12 +812,12 @@ class Cache:
             raise Refused("1 name")
 
     def check_room(self, slots):
-        """What lives takes at most half the slots of a half of the journal."""
+        """Live loaders and classes take at most half the slots of a half of the journal."""
         if self.slots() + slots > self.geometry.slots // 2:
             raise Refused("7 journal full")
 
     def slots(self):
-        """How many slots the loaders and classes take that live."""
+        """How many slots the live loaders and classes take."""
         return (sum(map(slots_of_name, self.loaders))
                 + sum(len(loader.classes) for loader in self.loaders.values()))
 
@@ -844,7 +842,7 @@ class Cache:
         return b"ok %d" % number
 
     def leave(self, name):
-        """The loader goes, and its chunks are free once the next line is run."""
+        """The loader is removed, and its chunks are free once the next line is run."""
         gone = self.loaders.pop(name)
         for chunk, _ in gone.arena.chain:
             self.pool.give(chunk)
@@ -864,8 +862,8 @@ class Cache:
         return b"ok %d" % self.done("unloadall", [self.leave(name) for name in names])
 
     def tighten(self, name):
-        """The journal says from where and to where, and the move carries each record that lay
-        there, with its offset."""
+        """The journal says from where and to where, and the move has each record that lay there,
+        with its offset."""
         loader = self.named(name)
         old, new = loader.arena.tighten(self.pool)
         moved = [live for live in loader.classes.values() if live.chunk == old]

@@ -1,12 +1,12 @@
 #!/usr/bin/env bash
-# The commands of README.md run as they stand, in an empty folder that has bin/ and examples/, and
-# print what stands after them.
+# The commands of README.md run unchanged, in an empty folder that has bin/ and examples/, and
+# print what README.md says.
 set -u
 cd "$(dirname "$0")/.." || exit 1
 . tests/lib.sh
 
-# blocks: each block of commands to its own file in $work, and what it prints, where that follows,
-# beside it.
+# blocks: each block of commands to its own file in $work, and what it prints, if that follows, to
+# another one.
 awk -v work="$work" '
     /^```/ && !inside {
         inside = 1

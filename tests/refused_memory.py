@@ -1,21 +1,21 @@
 #!/usr/bin/env python3
-"""Runs the program once for each allocation that it makes, with that one refused, and looks at what
-it says and leaves.
+"""Runs the program once for each allocation that it makes, with that one refused, and checks what
+it prints and leaves.
 
     tests/refused_memory.py PROGRAM ALLOCATIONS_LIBRARY REFUSALS WORD.. <SCRIPT
 
-The words are the program's; FILE among them is a file: for `format` none that is there, for a
-script that of an empty cache, and for `check`, `list` and a script without lines, which only opens
-it, that of a cache with classes. Each run has to end, and to write replies that are true: a line is
-answered as ever, or `refused 9 memory` where nothing else refuses it, or, of a cache in memory,
-`unsure N` as the last reply (a disk in memory that can't grow is a device that failed); fewer
-replies than lines come with status 3 alone. A file holds what was acknowledged then, or that and
-the next command; one that `format` didn't make isn't there, and one that is only looked at has its
+The words are the program's; FILE among them is a file: for `format` one that doesn't exist, for a
+script one with an empty cache, and for `check`, `list` and a script without lines, which only opens
+it, one with classes. Each run has to end, and its replies have to be true: the reply to a line is
+the usual one, or `refused 9 memory` if nothing else refuses it, or, for a cache in memory,
+`unsure N` as the last reply (a disk in memory that can't grow is a device that failed); there are
+fewer replies than lines only with status 3. A file holds what was acknowledged then, or that and
+the next command; one that `format` didn't make doesn't exist, and one that is only read has its
 bytes. `threads`, of cm_bench_files, makes a file and has one thread make a loader there and define
-a class, on a cache that is started for threads: it ends with status 3 where that can't be started
-(2 where its words can't be read), and the file, once it is made, holds a beginning of the two
-commands, all of those among them that it says are stored.
-REFUSALS is how many runs have to meet a refusal; the first that meets none ends the sweep.
+a class, on a cache that is started for threads: it ends with status 3 if that can't be started
+(2 if its words can't be read), and the file, once it is made, holds a beginning of the two
+commands, including all that it reports as stored.
+REFUSALS is the expected number of runs with a refusal; the first without one ends the sweep.
 """
 import copy
 import os
@@ -31,7 +31,7 @@ MOST = 2000
 
 
 def is_true(lines, replies, status, cache, has_file):
-    """Whether these are replies to the lines, in order; the cache is left as they tell."""
+    """Whether these are replies to the lines, in order; the cache is left as they say."""
     worst = 0
     for at, reply in enumerate(replies):
         if at >= len(lines):
@@ -92,14 +92,14 @@ class Sweep:
         self.states = states_of_threads()
         self.is_made = False
         self.checks = runs.Checks()
-        # Whether the file is only looked at.
+        # Whether the file is only read.
         self.makes = words[0] in ("format", "threads")
         self.looks = words[0] in ("check", "list") or not self.makes and not lines
         self.begins = (region.file_of(held_cache()) if self.looks
                        else bytes(region.Region(oracle.Geometry()).bytes))
 
     def run(self, refuse):
-        """What came of the run with that allocation refused, and whether there was one."""
+        """The result of the run with that allocation refused, and whether there was one."""
         if self.path and os.path.exists(self.path):
             os.remove(self.path)
         if self.path and not self.makes:
@@ -148,7 +148,7 @@ class Sweep:
         self.checks.check(f"{name}: the file", good, f"{held!s:.200}")
 
     def check_look(self, name, ran):
-        """All is told, or the beginning of it with status 3; the file has its bytes."""
+        """Everything is printed, or its beginning with status 3; the file has its bytes."""
         file = region.File(self.begins)
         due = {"check": [file.report().encode()], "list": [*file.listed()]}.get(self.words[0], [])
         replies, status, errors = ran

@@ -1,11 +1,11 @@
 #!/usr/bin/env python3
-"""What a region file holds, worked out apart from the program.
+"""What a region file holds, computed independently of the program.
 
     tests/region.py check FILE             what `cmcache check FILE` has to say of it
     tests/region.py list FILE              what `cmcache list FILE` has to say of it
     tests/region.py opened FILE            writes the bytes that it has once it was opened: those
-                                           that it had, or if it is of an older version, those of
-                                           the upgraded file
+                                           that it had, or if it is of version 1, those of the
+                                           upgraded file
     tests/region.py new TOP ROOTS SLOTS    writes the bytes of a new file
     tests/region.py after < SCRIPT         writes the bytes of a new file after the script, whose
                                            replies oracle.py gives
@@ -25,7 +25,7 @@ SLOT = 64
 NUMBERS = 2 ** 63
 HEAD, GROUP, LOADER, DEFINE, UNLOAD, MOVE = 0x01, 0x02, 0x11, 0x12, 0x13, 0x14
 UNLOAD_ALL, REST = 0x15, 0x16
-# The version of entries that is written; files of the one before are read, and upgraded.
+# The version of entries that is written; files of version 1 are read, and upgraded.
 VERSION = 2
 
 
@@ -59,12 +59,12 @@ def group_slot(count, first, gate=0):
 
 
 def rest_slot(rest):
-    """The slot with those bytes of a loader's name that its own has no room for."""
+    """The slot with those bytes of a loader's name for which its own has no room."""
     return spelled(REST, "")[:16] + rest.ljust(48, b"\0")
 
 
 def entry_slots(entry):
-    """The slot of an entry, or the two that a loader of a long name takes."""
+    """The slot of an entry, or the two of a loader with a long name."""
     kind, *what = entry
     if kind == "loader":
         number, name = what
@@ -105,7 +105,7 @@ class Region:
         # The half that counts, its epoch and the slot where it ends; whether the other is open.
         self.half, self.epoch, self.slot = 0, 1, 1
         self.is_other_open = False
-        # The entries of what lives, in order.
+        # The entries of live loaders and classes, in order.
         self.rows = []
         numbers = struct.pack("<IIII", 1, geometry.top, geometry.roots, geometry.slots)
         superblock = (MAGIC + numbers).ljust(SUPERBLOCK - 1, b"\0") + bytes([OPEN])
@@ -117,14 +117,14 @@ class Region:
         return self.slot + 1 + slots_of(entry) > self.geometry.slots
 
     def behind_rows(self):
-        """The first slot after what lives, once that is written into a half."""
+        """The first slot after the live rows, once they are written into a half."""
         return 1 + sum(map(slots_of, self.rows))
 
     def half_at(self, half):
         return SUPERBLOCK + SLOT * self.geometry.slots * half
 
     def checkpoint(self, number):
-        """The device calls that write what lives into the other half, after this last number."""
+        """The device calls that write the live rows into the other half, after this last number."""
         half = self.half_at(1 - self.half)
         yield (half, b"\0") if self.is_other_open else None
         yield None
@@ -280,13 +280,13 @@ class File:
         self.end = place
 
     def numbers(self, index, count):
-        """How many numbers the slots of a group take: the rest of a name takes none."""
+        """How many numbers the slots of a group take: a continuation slot takes none."""
         kinds = [self.slot(index + place)[1] for place in range(count)]
         return count if self.version == 1 else count - kinds.count(REST)
 
     def read_loader(self, index, end):
-        """A loader's number and name. What is left of a long name stands in the slot after its
-        own, which belongs to the same group, or to the live rows too."""
+        """A loader's number and name. A long name continues in the slot after its own, which
+        belongs to the same group, or to the live rows too."""
         slot = self.slot(index)
         length, loader = slot[2], number(slot, 8, 8)
         name = slot[16:16 + min(length, oracle.NAME_ROOM)]
@@ -424,8 +424,8 @@ class File:
         return spelled(DEFINE, "2xIQIIII", row.words, row.loader, *row.chunk, row.offset)
 
     def opened(self):
-        """The bytes once the file was opened: one of an older version has its live rows in its
-        other half then, which counts."""
+        """The bytes once the file was opened: one of version 1 has its live rows in its other half
+        then, which counts."""
         data = bytearray(self.data)
         if self.version == VERSION:
             return data
@@ -467,7 +467,7 @@ def state_of(cache):
 
 
 def class_of(words):
-    """The class that keeps the rules and has this record; None where there is none."""
+    """The class that keeps the rules and has this record; None if there is none."""
     try:
         data = class_file_of(words)
     except (IndexError, struct.error):
@@ -484,7 +484,7 @@ def parts(word):
 
 
 def class_file_of(words):
-    """The class file that a record would be of, if it is one; where it is none, any bytes or an
+    """The class file that a record would be of, if it is one; if it is none, any bytes or an
     IndexError."""
     flags, this_class, super_class, interface_count = parts(words[1])
     count, field_count, method_count, attribute_count = parts(words[2])

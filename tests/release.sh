@@ -1,9 +1,9 @@
 #!/usr/bin/env bash
-# The programs of release/ are those that its list names, and do what the documents say; those of
-# these very sources have the bytes that the gate built. And which program bin/cmcache runs: in a
+# The programs of release/ are those that its list names, and do what the documents say; if they are
+# of these very sources, they have the bytes that CI built. And which program bin/cmcache runs: in a
 # clone, with newer sources, with changed ones, and with a release that somebody altered.
 #
-# Needs git. After the gate (GATE is set) each program has to be there to be compared.
+# Needs git. In CI (IN_CI is set) each program has to be there to be compared.
 set -u
 cd "$(dirname "$0")/.." || exit 1
 . tests/lib.sh
@@ -38,18 +38,18 @@ check "the first example" 0
 CMCACHE=$work/release/cmcache bash tests/replies.sh >"$work/told" 2>&1
 check_last "tests/replies.sh on the released program: $(tail -n 1 "$work/told")"
 
-# The bytes that the gate built, if the release is of these sources and of this machine's kit.
+# The bytes that CI built, if the release is of these sources and of this machine's kit.
 if [ "$(sources_hash)" != "$(released sources)" ]; then
-    echo "not compared with what the gate built: the release is of other sources"
+    echo "not compared with what CI built: the release is of other sources"
 elif ! command -v rt >/dev/null; then
-    echo "not compared with what the gate built: there is no kit on this machine"
+    echo "not compared with what CI built: there is no kit on this machine"
 elif [ "$(rt version)" != "$(released kit)" ]; then
-    echo "not compared with what the gate built: that was $(rt version), the release's" \
+    echo "not compared with what CI built: that was $(rt version), the release's" \
         "$(released kit)"
 else
     for made in "$work"/release/*; do
         name=$(basename "$made")
-        if [ -z "${GATE:-}" ] && [ ! -x "crates/$name/out/$name" ]; then
+        if [ -z "${IN_CI:-}" ] && [ ! -x "crates/$name/out/$name" ]; then
             echo "not compared: $name wasn't built here"
             continue
         fi

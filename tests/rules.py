@@ -1,12 +1,12 @@
 #!/usr/bin/env python3
 """Classes that keep each rule and classes that break it, by tables worked out by hand: the program
-takes the ones and tells the first rule that the others break, with its spot.
+accepts the former, and for the latter reports the first broken rule, with its spot.
 
     tests/rules.py PROGRAM
 
 A draft is a class as its parts: entries 1 to 4 of its pool are the class A with its name and the
 class java/lang/Object with its name, and its own entries follow from index 5 on. A table's rows end
-in what is told: True, or the rule and the spot.
+in the expected result: True, or the rule and the spot.
 """
 import struct
 import sys
@@ -71,7 +71,7 @@ def attributes(parts):
 
 @dataclass
 class Draft:
-    """A public class A, and nothing else, but for what is named. A field or method is its flags,
+    """A public class A, with nothing else but what is named. A field or method is its flags,
     the indexes of its name and its descriptor; each of them has the same parts for attributes."""
     entries: list = field(default_factory=list)
     flags: int = 0x0021
@@ -98,7 +98,7 @@ class Draft:
 
 
 def broken(right, rule, spot):
-    """What is told of a row: nothing where it is right, else the rule and the spot."""
+    """The expected result of a row: none if it is right, otherwise the rule and the spot."""
     return None if right else (rule, spot)
 
 
@@ -151,7 +151,7 @@ OWN_CLASS = [
     (b"B", None), (b"a/B", None), (b"[LA;", (11, "this")),
 ]
 
-# The class's flags, its own class, the one above it.
+# The class's flags, its own class, its super class.
 SUPER_CLASSES = [
     (0x0021, 1, 1, None), (0x0021, 1, 0, (12, "super")), (0x0021, 3, 0, None), (0x0021, 3, 1, None),
     (0x0601, 1, 3, None), (0x0601, 1, 1, (12, "super")), (0x0601, 1, 0, (12, "super")),

@@ -1,5 +1,5 @@
-"""What the scripts share that run the program on files and stop it: runs, scripts by chance, and
-how a file is looked at."""
+"""Shared by the scripts that run the program on files and stop it: runs, random scripts, and checks
+of a file."""
 import os
 import subprocess
 
@@ -28,12 +28,12 @@ def define(loader, name, zeros):
 
 
 def some_loaders(rng):
-    """The loaders that lines by chance speak of."""
+    """The loaders that random lines name."""
     return rng.choice([LOADERS, LONG_LOADERS])
 
 
 def some_line(rng, loaders):
-    """A line by chance: mostly classes, of some sizes."""
+    """A random line: mostly classes, of some sizes."""
     loader, name, chance = rng.choice(loaders), rng.choice(CLASSES), rng.random()
     if chance < 0.25:
         return b"loader " + loader
@@ -57,7 +57,7 @@ FINDS = [b"find %s %s" % (loader, name) for loader in LOADERS + LONG_LOADERS[1:]
 
 
 class Checks:
-    """Counts what passed, and tells what didn't."""
+    """Counts what passed, and prints what didn't."""
 
     def __init__(self):
         self.passed = 0
@@ -78,7 +78,7 @@ class Checks:
 
 def run(program, words, lines=(), env=None, limit=None):
     """Runs the program on lines, or on bytes as they are, to its end: its lines of output, its
-    status and what it tells on standard error. A limit is one on the size of files, whose signal is
+    status and its standard error. A limit is one on the size of files, whose signal is
     ignored."""
     words = [program, *words]
     if limit is not None:
@@ -96,7 +96,7 @@ def answers(cache, lines):
 
 
 def state_in(path):
-    """What a file stands for and its last number; where it isn't a cache, the verdict."""
+    """What a file stands for and its last number; if it isn't a cache, the verdict."""
     try:
         file = region.read(path)
     except (region.NotACache, region.Damaged) as verdict:
@@ -105,8 +105,8 @@ def state_in(path):
 
 
 def settle(checks, name, path, cache, line):
-    """Looks at a file after a run that ended early. The file holds what was acknowledged, which is
-    the cache's; or, besides, the change of the line that was being run. The cache is left as the
+    """Checks a file after a run that ended early. The file holds what was acknowledged, which is
+    the cache's; or that and the change of the line that was being run. The cache is left as the
     file is."""
     state, number = state_in(path)
     if line is not None and is_change(line) and number == cache.number + 1:

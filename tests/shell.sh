@@ -1,6 +1,6 @@
 #!/usr/bin/env bash
 # The shell scripts of this repository have no finding of shellcheck, which is fetched from Debian's
-# packages where it isn't installed.
+# packages if it isn't installed.
 set -u
 cd "$(dirname "$0")/.." || exit 1
 . tests/lib.sh
@@ -18,6 +18,6 @@ while read -r script; do
     shellcheck -x -P SCRIPTDIR "$script"
     check_last "shellcheck $script"
 done < <(grep -lE '^#! ?/(usr/)?bin/(env )?(ba)?sh|^# shellcheck shell=' \
-    .ci/* bin/* tests/* tests/gate/* bench/* examples/* 2>/dev/null)
+    .ci/* bin/* tests/* tests/ci/* bench/* examples/* 2>/dev/null)
 
 finish

@@ -1,17 +1,16 @@
 #!/usr/bin/env python3
-"""Compares `cm_simulate` with a plain model of the world: event lists drawn at random, and walks
-stopped at each device call.
+"""Compares `cm_simulate` with a plain model of the world: random event lists, and walks stopped at
+each device call.
 
-    tests/simulate.py PROGRAM            event lists, walks, lines of another form, the file of the
-                                         disk
+    tests/simulate.py PROGRAM            event lists, walks, lines that are no event, the file of
+                                         the disk
     tests/simulate.py PROGRAM LIBRARY N  a simulation once for each of its allocations, with that
                                          one refused; N are met
 
 The model holds loaders and classes as dictionaries, with the chunk in which each class lies, what
 is handed out and what is acknowledged, which chunks wait, and what the device call under way may
-leave of the file. It is written from the project's
-description and shares no code with the program; the class files are judged by tests/oracle.py. Its
-random numbers have fixed seeds.
+leave of the file. It is written from the project's description and shares no code with the program;
+tests/oracle.py checks the class files. Its random numbers have fixed seeds.
 """
 import functools
 import os
@@ -53,7 +52,7 @@ def class_p(name, count):
 
 
 def judged(data):
-    """The name and the words of a class, or None and the refusal of what is none."""
+    """The name and the words of a class, or None and the refusal."""
     found, fault = oracle.read_shape(data)
     if fault or oracle.first_fault(found):
         return None, 14
@@ -63,8 +62,8 @@ def judged(data):
 
 # ---- the world
 
-# The device calls of a checkpoint, before those of the group that has no room; where the other half
-# is shut, a sync stands for the first.
+# The device calls of a checkpoint, before those of the group that has no room; if the other half is
+# shut, a sync takes the place of the first.
 CHECKPOINT = ["other half's gate", "sync", "rows", "sync", "new half's gate", "sync"]
 
 # Those of a trim.
@@ -84,7 +83,7 @@ def slots_of(name):
 
 
 def rows_in(loaders):
-    """How many slots the loaders and classes take that live."""
+    """How many slots the live loaders and classes take."""
     return sum(slots_of(name) + len(classes) for name, classes in loaders.items())
 
 
@@ -168,8 +167,8 @@ class World:
         self.turned, self.gate, self.loose = None, 0, False
 
     def turn(self, gate):
-        """The byte of the gate that is turned is settled: the number of the last command in the
-        file then."""
+        """The byte of the gate that is being turned is durable now: the number of the last command
+        in the file then."""
         turned = self.turned
         self.settle()
         if turned == "other half":
@@ -242,7 +241,7 @@ class World:
         return f"number {self.number()}"
 
     def is_full(self, slots):
-        """Whether what lives leaves no room for this many slots more."""
+        """Whether the live rows leave no room for this many slots more."""
         return rows_in(self.loaders()) + slots > self.slots // 2
 
     def loader(self, name):
@@ -321,7 +320,7 @@ class World:
     def seal(self):
         if self.sealed == self.number():
             return "none"
-        # Unsealed commands are in groups of as many as fit into 64 slots, but for those in the
+        # Unsealed commands are in groups of as many as fit into 64 slots, except those in the
         # newest.
         group = Group(self.sealed + 1, self.sealed, 0)
         for _, _, slots in self.commands[self.sealed:]:
@@ -370,7 +369,7 @@ class World:
         return f"done {group.last}"
 
     def make(self, call, fails):
-        """A device call; where it fails, a write stores its first bytes."""
+        """A device call; if it fails, a write stores its first bytes."""
         if fails is not None:
             self.stops.append(f"fault in {call}")
         if call == "root":
@@ -420,8 +419,8 @@ class World:
         return f"opened {self.number()}"
 
     def crash(self, length, fill):
-        """Where a gate's byte is loose, nothing else is."""
-        self.stops.append(f"crash, gate of the {self.turned} loose" if self.loose
+        """If a gate's byte is unsynced, nothing else is."""
+        self.stops.append(f"crash, gate of the {self.turned} unsynced" if self.loose
                           else f"crash before {self.calls[0]}" if self.calls else "crash at rest")
         gate = fill[0] if self.loose and fill else self.gate
         self.length = self.least = self.greatest = max(self.least, min(length, self.greatest))
@@ -432,7 +431,7 @@ class World:
 # ---- simulations as text
 
 class Simulation:
-    """Lines, and the replies that are due by the model."""
+    """Lines, and the replies that the model expects."""
 
     def __init__(self, top=5, roots=4, slots=256):
         self.world = World(top, roots, slots)
@@ -440,7 +439,7 @@ class Simulation:
         self.events = []
 
     def add(self, name, *words):
-        """An event; the reply that is due to it."""
+        """An event, and the reply that the model expects."""
         shown = [w if isinstance(w, bytes) else b"%d" % w for w in words]
         if name in ("define", "crash"):
             shown[1] = shown[1].hex().encode() or b"-"
@@ -489,7 +488,7 @@ FILLS = [b"", b"\xa5", b"\x00", b"\xa4", b"\xff" * 3]
 
 
 def draw_name(draw, world):
-    """A loader's name: mostly one that lives."""
+    """A loader's name: mostly one that is live."""
     if world.loaders() and draw.random() < 0.7:
         return draw.choice(sorted(world.loaders()))
     return draw.choice(NAMES if draw.random() < 0.9 else ODD_NAMES + [b"\xc3\xa9"])
@@ -545,14 +544,14 @@ def draw_event(draw, simulation, busy, at_rest):
 
 
 # How often there are commands, seals, advances, learns, look-ups, faults, openings, trims and
-# crashes, where calls are left or a group waits, and where there is neither.
+# crashes, if calls are left or a group waits, and if there is neither.
 BUSY = [(4, 2, 30, 2, 2, 4, 1, 2, 3), (2, 1, 40, 1, 1, 1, 1, 2, 4), (8, 4, 20, 1, 1, 6, 2, 1, 2)]
 BUSY += [(20, 3, 25, 4, 1, 1, 1, 1, 1)]
 AT_REST = [(20, 8, 1, 3, 5, 1, 1, 6, 1), (30, 4, 1, 2, 2, 1, 0, 8, 1), (60, 4, 1, 4, 2, 1, 1, 2, 1)]
 
 
 def fill_journal(draw, simulation):
-    """Commands until as many loaders live as may."""
+    """Commands until as many loaders are live as possible."""
     simulation.add("reopen")
     for count in range(600):
         name = b"l%d" % count
@@ -569,7 +568,7 @@ def fill_journal(draw, simulation):
 
 
 def draw_list(seed):
-    """An event list; of every 25, one is long enough that as many loaders live as may."""
+    """An event list; of every 25, one is long enough that as many loaders are live as possible."""
     draw = random.Random(seed)
     simulation = Simulation(roots=draw.choice([1, 2, 4]))
     mixes = draw.choice(BUSY), draw.choice(AT_REST)
@@ -614,7 +613,7 @@ def check_lists(checks, program):
     # A root is the first call of its group: before it the cache is at rest.
     wanted += ([f"fault in {call}" for call in {*CALLS, *TRIM}]
                + [f"crash before {call}" for call in {*CALLS, *TRIM} - {"root"}])
-    wanted += ["crash, gate of the group loose", "crash at rest"]
+    wanted += ["crash, gate of the group unsynced", "crash at rest"]
     missed = [f"{kind} ({met.get(kind, 0)})" for kind in wanted if met.get(kind, 0) < 20]
     checks.check(not missed,
                  f"the lists meet each reply and each stop at least 20 times, but not {missed}")
@@ -654,7 +653,7 @@ def fill_half(simulation):
 
 
 def fill_halves(simulation, is_other_open):
-    """The half that counts has no room for another group; the other is open where it was used
+    """The half that counts has no room for another group; the other is open if it was used
     before."""
     fill_half(simulation)
     if is_other_open:
@@ -676,7 +675,7 @@ def before_checkpoint(is_other_open):
 
 
 def ends(lengths, fills):
-    """The ways in which a walk goes on: opened again, or after a crash."""
+    """The ways in which a walk continues: opened again, or after a crash."""
     yield ("reopen",)
     for length in lengths:
         for fill in fills:
@@ -684,14 +683,14 @@ def ends(lengths, fills):
 
 
 def stop(simulation, device_calls, calls, stored, end):
-    """The group is stopped after this many of its device calls, the last of which fails where bytes
-    are given that it stores; whether it is there then."""
+    """The group is stopped after this many of its device calls, the last of which fails if the
+    bytes that it stores are given; whether it is there then."""
     for call in range(calls):
         if stored is not None and call == calls - 1:
             simulation.add("fault", stored)
         simulation.add("advance")
     simulation.add(*end)
-    # As docs/CRASH.md has it: the group is there exactly where its gate is A5 in the file that is
+    # As docs/CRASH.md says: the group is there exactly if its gate is A5 in the file that is
     # opened.
     at_gate, at_end = len(device_calls) - 1, len(device_calls)
     gate = 0xa5 if calls >= at_gate and not (calls == at_gate and stored == 0) else 0
@@ -712,7 +711,7 @@ def check_walk(checks, program, simulation, device_calls, calls, stored, end):
     wanted = [f"opened {number}", "class 16"] if there else [f"opened {number - 1}", "none"]
     checks.check(due[-2:] == wanted and (calls < at_end or stored is not None or there),
                  f"{what}: the model")
-    # What is opened goes on.
+    # What is opened can be used further.
     simulation.add("loader", b"next")
     store(simulation)
     simulation.add("crash", 0, b"\x00")
@@ -785,7 +784,7 @@ def check_found(checks, program, simulation, what, replies, found):
 
 def check_move(checks, program, simulation, device_calls, calls, stored, end, goes_on=False):
     """A move is stopped: each class is found with its words, whether or not it moved. The records
-    can move then where it isn't there; or, where that is said, only where it is there."""
+    can move then if it isn't there; or, if that is asked for, only if it is there."""
     number = simulation.world.number()
     found = [(name, words) for name, (words, _) in simulation.world.loaders()[b"app"].items()]
     there = stop(simulation, device_calls, calls, stored, end)
@@ -861,7 +860,7 @@ def before_growth():
 
 
 def check_move_grows(checks, program):
-    """A move into a root that was cut off writes it anew."""
+    """A move into a root that was cut off writes that root again."""
     checks.check(before_growth().due == "trimmed 1", "a trim cuts off the second root")
     walks = list(ends((0, 1 << 40), (b"", b"\xa5", b"\xa5" * 9000)))
     # The chunk that it left lies before the one in the second root, which no opening knows without
@@ -901,7 +900,7 @@ def check_trims(checks, program):
             store(simulation)
             simulation.add("crash", 0, b"")
             simulation.add("look", b"next", b"A")
-            checks.check(simulation.due == "class 16", f"{what}: the model goes on")
+            checks.check(simulation.due == "class 16", f"{what}: the model continues")
             compare(checks, program, simulation, what)
 
 
@@ -928,7 +927,7 @@ def check_region(checks, program):
 # ---- names that take two slots
 
 def check_long_names(checks, program):
-    """Worked out by hand: what lives takes at most 128 slots, and a group has at most 64."""
+    """Worked out by hand: live rows take at most 128 slots, and a group has at most 64."""
     names = [b"%d" % number for number in range(64)]
     lines = [b"geometry 3 1 256"]
     lines += [b"loader " + name.rjust(96, b"l") for name in names[:40]]
@@ -960,7 +959,7 @@ def check_long_names(checks, program):
         checks.check(got[-2:] == groups, f"{count} names and one of {other} bytes: {got[-2:]}")
 
 
-# ---- lines of another form
+# ---- lines that are no event
 
 def check_forms(checks, program):
     first = b"geometry 3 1 256\n"
@@ -1017,7 +1016,7 @@ def check_disk(checks, program):
     loader[16:19] = b"app"
     slots = bytes(head + group + loader)
     file = superblock + slots + bytes(2 * 256 * 64 - len(slots))
-    # A name of 49 bytes goes on in slot 3, and the next group stands at slot 4.
+    # A name of 49 bytes continues in slot 3, and the next group stands at slot 4.
     long = slot(0x11, at_2_1=49, at_8_8=1)
     long[16:] = b"m" * 48
     rest = slot(0x16, at_16_1=0x6d)
@@ -1083,7 +1082,7 @@ MAY_WANT_MEMORY = "loader", "define", "unload", "unloadall", "tighten", "seal", 
 
 
 def is_true(simulation, replies):
-    """Whether each reply is as ever, but for one that tells of the allocation that failed."""
+    """Whether each reply is the usual one, except for one that reports the failed allocation."""
     world = World(3, 2, 256)
     left = 1
     for (name, words), reply in zip(simulation.events, replies):
@@ -1111,7 +1110,7 @@ def sweep(checks, program, library, wanted):
         told |= {"refused 9", "device"} & set(got) if status == 0 else {status}
         if not refused:
             break
-    checks.check(told == {"refused 9", "device", 3}, f"refused allocations are told as {told}")
+    checks.check(told == {"refused 9", "device", 3}, f"refused allocations are reported as {told}")
     checks.check(refuse - 1 == wanted, f"{refuse - 1} refusals were met, and not {wanted}")
 
 

@@ -1,7 +1,7 @@
 #!/usr/bin/env bash
-# cm_simulate beside a plain model of the world: event lists drawn with fixed seeds, a define
-# stopped at each of its device calls, lines of another form, the file of the disk, and each
-# allocation of a simulation refused in turn.
+# cm_simulate compared with a plain model of the world: random event lists with fixed seeds, a
+# define stopped at each of its device calls, lines that are no event, the file of the disk, and
+# each allocation of a simulation refused in turn.
 #
 # Needs Python and a C compiler.
 set -u
@@ -15,7 +15,7 @@ if ! cc -O2 -Wall -Werror -shared -fPIC -o "$library" tests/allocations.c; then
     exit 1
 fi
 
-# checks ARGS..: those of tests/simulate.py, which tells in its last line how many passed.
+# checks ARGS..: those of tests/simulate.py, whose last line says how many passed.
 checks() {
     tests/simulate.py "$simulate" "$@" >"$work/log" 2>&1
     local last

@@ -1,13 +1,13 @@
 #!/usr/bin/env python3
-"""Has threads define, find and unload classes in one file at once, and looks at what they were
-answered and at what the file holds then.
+"""Has threads define, find and unload classes in one file at once, and checks their replies and
+what the file holds then.
 
     tests/soak.py PROGRAM BENCH THREADS SECONDS
 
-Each thread has loaders of its own, so oracle.py answers its calls apart from those of the others;
-but for the numbers, which have to be 1 to that of the last, each once, and to rise in each thread.
-The file, read by region.py, checked and listed by the program, has to hold what all threads have
-in the end. It is so small that its journal is written anew again and again.
+Each thread has loaders of its own, so oracle.py gives the replies to its calls independently of the
+others, except for the numbers, which have to be 1 to the last, each once, and to rise in each
+thread. The file, read by region.py, checked and listed by the program, has to hold what all threads
+have in the end. It is so small that checkpoints come again and again.
 """
 import os
 import subprocess
@@ -26,7 +26,7 @@ NAMES = [name for name in runs.CLASSES for _ in range(3)]
 
 
 def line_of(asked):
-    """A call as a line of a script: a class is told by its place in the list."""
+    """A call as a line of a script: a class is given by its place in the list."""
     verb, loader, *rest = asked.split(b" ")
     if verb == b"define":
         return b"define %s %s" % (loader, HEX[int(rest[0])])
@@ -36,7 +36,7 @@ def line_of(asked):
 
 
 def kind_of(reply):
-    """A reply of oracle.py as the threads tell it, and without its number."""
+    """A reply of oracle.py as the threads print it, and without its number."""
     words = reply.split(b" ")
     if words[0] == b"class":
         return b"words " + words[-1]
@@ -44,7 +44,7 @@ def kind_of(reply):
 
 
 class Told:
-    """What one thread told."""
+    """The output of one thread."""
 
     def __init__(self, lines):
         self.calls = [line.split(b": ") for line in lines]
@@ -52,8 +52,8 @@ class Told:
         self.loaders = {asked.split(b" ")[1] for asked, _ in self.calls}
 
     def wrong(self, cache):
-        """The first call that wasn't answered as this cache answers it; it is left as the thread
-        has left its loaders."""
+        """The first call whose reply isn't this cache's; the cache is left as the thread left its
+        loaders."""
         for asked, answer in self.calls:
             kind = b"ok" if answer.startswith(b"ok ") else answer
             due = kind_of(cache.answer(line_of(asked)))
@@ -77,7 +77,7 @@ def check_threads(checks, threads):
 
 
 def parse(out):
-    """What each thread told, and the last line."""
+    """The output of each thread, and the last line."""
     *body, last = out.split(b"\n")[:-1]
     threads = []
     for line in body:
@@ -97,11 +97,11 @@ def soak(checks, program, bench, path, count, seconds):
                          input=stream, stdout=subprocess.PIPE, stderr=subprocess.PIPE, check=False)
     checks.check("the soak ends", (ran.returncode, ran.stderr) == (0, b""), f"{ran!s:.200}")
     threads, last = parse(ran.stdout)
-    checks.check("all threads told", len(threads) == count)
+    checks.check("all threads have output", len(threads) == count)
     state = check_threads(checks, threads)
     numbers = sorted(number for told in threads for number in told.numbers)
     most = len(numbers)
-    checks.check("each number is answered once", numbers == [*range(1, most + 1)])
+    checks.check("each number is returned once", numbers == [*range(1, most + 1)])
     checks.check("what was counted", last == b"handed %d committed %d of_passes %d missing 0"
                  % (most, most, most), f"{last}")
     checks.check("the file", runs.state_in(path) == (state, most))

@@ -1,9 +1,9 @@
 #!/usr/bin/env python3
-"""Looks at the sources of the repository at the current folder: prints a line for each file with a
-line of more than 100 columns, for each mutant whose old text doesn't stand exactly once in its
-file, for each law that a crate passes on and no other cites, or the other way round, and for each
-file of lemmas that doesn't say what it serves; and last how many were looked at: 'N passed, M
-failed'.
+"""Checks the sources of the repository at the current folder: prints a line for each file with a
+line of more than 100 columns, for each mutant whose old text doesn't occur exactly once in its
+file, for each law that a crate passes on and no other cites, or the other way round, for each file
+of lemmas that doesn't say what it serves, and for each file whose prose has a word that a common
+one replaces; and last how many were checked: 'N passed, M failed'.
 
     tests/sources.py
 """
@@ -17,7 +17,7 @@ UNBROKEN = re.compile(r"\s*(((pub|ghost) )*use [^,]*|#\[.*\])$")
 
 PARTS = ("src", "specs", "proofs")
 SCRIPTS = ("tests/*.py", "tests/*.sh", "tests/*.c", "tests/java/*", "bench/*", "examples/*.py",
-           "tests/run", "tests/gate/*", "bin/*", ".ci/run")
+           "tests/run", "tests/ci/*", "bin/*", ".ci/run")
 
 
 def columns():
@@ -32,8 +32,8 @@ def columns():
 
 
 def is_planted(edit, crate):
-    """Whether each old text of an edit stands exactly once in its file, as the pairs before it
-    leave that, and is replaced by another."""
+    """Whether each old text of an edit occurs exactly once in its file, as the pairs before it
+    leave the file, and is replaced by another."""
     texts, file, old = {}, None, None
     for line in edit.read_text().splitlines():
         kind, _, text = line.partition(": ")
@@ -51,11 +51,11 @@ def is_planted(edit, crate):
 
 
 def planted():
-    """Each mutant of the gate and of the audit names what is there."""
+    """Each mutant, in must-fail/ and in the audit, names text that is there."""
     for edit in sorted(
         [*Path("crates").glob("*/must-fail/*.edit"), *Path("audit").glob("*/*.edit")]):
         yield (is_planted(edit, Path("crates") / edit.parts[1]),
-               f"{edit}: its old text stands once in its file, and the new one differs")
+               f"{edit}: its old text occurs once in its file, and the new one differs")
 
 
 PROOFS = re.compile(r"^use Rattle\.(cm_\w+)\.proofs\.?([\w.]*)\.\{([^}]*)\}$", re.MULTILINE)
@@ -120,13 +120,47 @@ def lemmas():
                    f"{path}: its heading names functions or definitions that are there")
 
 
+# Words that prose does without, each with what to write.
+WORDS = (
+    (r"behind", "after, following, next to"),
+    (r"so many", "N, that many, as many as"),
+    (r"exactly where", "exactly if, exactly when"),
+    (r"(?:go|goes|going|carry|carries) on", "continues, follows"),
+    (r"planted|edits? of the audit", "mutant"),
+    (r"moved over|moving over|moves over", "upgraded"),
+    (r"(?:un)?settle[sd]?", "durable"),
+    (r"loose", "unsynced"),
+    (r"what is so|is what is so", "what holds"),
+)
+BANNED = [(re.compile(rf"\b(?:{word})\b", re.IGNORECASE), instead) for word, instead in WORDS]
+COMMENTS = {".rt": re.compile(r"(?:^|\s)//[/!]?\s(.*)"), ".antt": re.compile(r"(?:^|\s)--\s(.*)"),
+            ".sh": re.compile(r"(?:^|\s)#\s(.*)"), ".md": re.compile(r"(.*)")}
+
+
+def prose(path):
+    """The comments of a source, or the lines of a document, without what stands in backticks."""
+    found = (COMMENTS[path.suffix].search(line) for line in path.read_text().splitlines())
+    return "\n".join(re.sub(r"`[^`]*`", "", text[1]) for text in found if text)
+
+
+def words():
+    """No comment and no document has a word that a common one replaces."""
+    parts = [f"crates/*/{part}/**/*.{kind}" for part in PARTS for kind in ("rt", "antt")]
+    forms = (*parts, "tests/**/*.sh", "bench/*.sh", "docs/*.md", "*.md", "crates/*.md")
+    for path in sorted({path for form in forms for path in Path(".").glob(form)}):
+        text = prose(path)
+        found = [f"{bad[0]} (write {instead})" for word, instead in BANNED
+                 for bad in word.finditer(text)]
+        yield not found, f"{path}: {', '.join(found)}"
+
+
 def main():
     passed = failed = 0
-    for look in (columns, planted, laws, lemmas):
+    for look in (columns, planted, laws, lemmas, words):
         looked = list(look())
         if not looked:
             failed += 1
-            print(f"FAILED: nothing to look at: {look.__doc__}")
+            print(f"FAILED: nothing to check: {look.__doc__}")
         for is_so, what in looked:
             passed += is_so
             failed += not is_so

@@ -1,5 +1,5 @@
 #!/usr/bin/env bash
-# What no compiler looks at in the sources: lines stay within 100 columns, those of scripts too, and
+# What no compiler checks in the sources: lines stay within 100 columns, those of scripts too, and
 # the mutants of the audit still name text that is there. Needs python3.
 set -u
 cd "$(dirname "$0")/.." || exit 1

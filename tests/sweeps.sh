@@ -1,6 +1,6 @@
 # shellcheck shell=bash
-# Sourced beside tests/lib.sh by the scripts that refuse one allocation after another. Their sweeps
-# run side by side, one a processor, each with a folder of its own.
+# Sourced, with tests/lib.sh, by the scripts that refuse one allocation after another. Their sweeps
+# run side by side, as many as there are processors, each with a folder of its own.
 
 # Each sweep counts in a subshell of its own, with a folder of its own.
 # shellcheck disable=SC2030,SC2031,SC2154
@@ -29,7 +29,7 @@ beside() {
     ) >"$work/$sweeps/told" 2>&1 &
 }
 
-# end_sweeps: waits for all sweeps, prints in turn what each said, and counts its checks.
+# end_sweeps: waits for all sweeps, prints the output of each in turn, and counts its checks.
 end_sweeps() {
     local sweep good bad
     wait

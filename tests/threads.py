@@ -1,12 +1,12 @@
 #!/usr/bin/env python3
-"""Runs scripts by chance with one worker and with several, some of them on a device that fails.
+"""Runs random scripts with one worker and with several, some of them on a device that fails.
 
     tests/threads.py PROGRAM CALLS_LIBRARY SCRIPTS SEED
 
 A command is stored before the next is accepted, so the device calls of a script are the same with
-any number of workers: those that region.py makes of the commands that oracle.py accepts. So are the
-replies, the status and the bytes of the file, where one of these calls fails too. What such a run
-leaves holds all that was acknowledged, and another run goes on with it.
+any number of workers: those that region.py derives from the commands that oracle.py accepts. So are
+the replies, the status and the bytes of the file, also if one of these calls fails. What such a run
+leaves holds all that was acknowledged, and another run continues with it.
 """
 import os
 import random
@@ -35,7 +35,7 @@ ROWS = {
 }
 GEOMETRY = oracle.Geometry(top=3, roots=3, slots=256)
 MOST_LINES = 100
-# Of this many scripts one is run on a device that fails.
+# One in this many scripts runs on a device that fails.
 FAILING = 4
 # Lines that are refused whatever the cache holds.
 BAD_LINES = [b"", b"find app", b"loader " + runs.TOO_LONG, b"define app 0", b"define app cafebabe",
@@ -43,14 +43,14 @@ BAD_LINES = [b"", b"find app", b"loader " + runs.TOO_LONG, b"define app 0", b"de
 
 
 def some_lines(rng):
-    """Lines by chance, now and then one that no cache takes."""
+    """Random lines, now and then one that no cache accepts."""
     loaders = runs.some_loaders(rng)
     return [rng.choice(BAD_LINES) if rng.random() < 0.06 else runs.some_line(rng, loaders)
             for _ in range(rng.randrange(MOST_LINES))]
 
 
 class Script:
-    """Lines, and what a run of them on a new file has to come to."""
+    """Lines, and the expected result of running them on a new file."""
 
     def __init__(self, lines):
         self.lines = lines
@@ -69,8 +69,8 @@ def replies_among(calls):
 
 
 class Broken:
-    """A script, and what a run has to come to in which a device call fails, counted from 1, of
-    which some bytes are stored."""
+    """A script, and the expected result of a run in which a device call fails, counted from 1,
+    after storing some bytes."""
 
     def __init__(self, script, path, library, fails, stores):
         at = [at for at, call in enumerate(script.calls) if call[0] != "r"][fails - 1]
@@ -78,7 +78,7 @@ class Broken:
         self.lines = script.lines
         self.new = script.new
         self.replies = replies_among(done)
-        # Behind the last number that was acknowledged; the first call only opens the file.
+        # After the last number that was acknowledged; the first call only opens the file.
         number = 1 + sum(reply.startswith(b"ok ") for reply in self.replies)
         self.replies.append(b"unsure %d" % number if fails > 1 else b"device")
         self.status = 3
@@ -107,7 +107,7 @@ class Bench:
         self.checks = runs.Checks()
 
     def run(self, name, due, workers):
-        """A run on a new file, compared with what it has to come to."""
+        """A run on a new file, compared with the expected result."""
         with open(self.path, "wb") as file:
             file.write(due.new)
         told = runs.run(self.program, ["apply", self.path, "--workers", workers], due.lines,
@@ -123,7 +123,7 @@ class Bench:
             self.run(name, due, workers)
 
     def fail_one(self, rng, name, script):
-        """A script on a device that fails at one of its calls, and the rest of it after that."""
+        """A script on a device that fails at one of its calls, and then the remaining lines."""
         calls = device.device_calls(script.calls)
         fails = rng.randrange(1, len(calls) + 1)
         length = len(calls[fails - 1][2])
@@ -140,12 +140,12 @@ class Bench:
         rest = due.lines[count:]
         wanted = runs.answers(cache.reopened(), rest)
         told = runs.run(self.program, ["apply", self.path, "--workers", "2"], rest)
-        self.checks.check(f"{name}: the rest", told == (*wanted, ""), f"{told!s:.200}")
+        self.checks.check(f"{name}: the remaining lines", told == (*wanted, ""), f"{told!s:.200}")
         runs.settle(self.checks, f"{name}: the file after it", self.path, cache, None)
 
 
 def is_answered_at_once(program):
-    """Whether each line is answered before the next is written."""
+    """Whether each line has its reply before the next is written."""
     process = subprocess.Popen([program, "apply", "--memory", "--workers", "2"],
                                stdin=subprocess.PIPE, stdout=subprocess.PIPE)
     replies = []
@@ -172,7 +172,7 @@ def main(program, library, scripts, seed):
                 bench.run_all(name, script)
             else:
                 bench.fail_one(rng, name, script)
-    bench.checks.check("a line is answered before the next is there", is_answered_at_once(program))
+    bench.checks.check("a line has its reply before the next comes", is_answered_at_once(program))
     return bench.checks.finish()
 
 

@@ -1,10 +1,10 @@
 #!/usr/bin/env bash
-# `apply` with workers writes what it writes with one, on the output and in the file, also where a
-# device call fails, and answers each line before the next is there; a run with workers that is
-# killed keeps what it acknowledged; and threads that define, find and unload in one file at once
-# are answered as one thread would be, and leave there what they were answered.
+# `apply` with several workers writes what it writes with one, on the output and in the file, also
+# if a device call fails, and replies to each line before the next one arrives; a run with workers
+# that is killed keeps what it acknowledged; and threads that define, find and unload in one file at
+# once get the replies that one thread would get, and leave the file in accordance with them.
 # SCRIPTS=N runs N random scripts instead of 1,000, KILLS=N kills N runs instead of 50, SOAK=N has
-# the threads work for N seconds instead of one, SEED=N takes other scripts and moments. Needs a C
+# the threads work for N seconds instead of one, SEED=N uses other scripts and moments. Needs a C
 # compiler and Python 3.
 set -u
 cd "$(dirname "$0")/.." || exit 1
@@ -17,7 +17,7 @@ if ! cc -O2 -Wall -Werror -shared -fPIC -o "$library" tests/calls.c; then
 fi
 seed=${SEED:-$RANDOM}
 
-# No machine stops under these scripts, so they needn't wait for a disk.
+# The machine doesn't stop during these scripts, so they needn't wait for a disk.
 quick=$work
 [ -w /dev/shm ] && quick=$(mktemp -d -p /dev/shm)
 trap 'rm -rf "$work" "$quick"' EXIT

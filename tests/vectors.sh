@@ -1,6 +1,6 @@
 #!/usr/bin/env bash
-# Scripts of changed class files, flag words and method handles; an independent program gave the
-# replies. Needs nothing beyond the machine's own tools.
+# Scripts of changed class files, flag words and method handles; an independent program made the
+# expected replies. Needs nothing beyond the machine's own tools.
 set -u
 cd "$(dirname "$0")/.." || exit 1
 . tests/lib.sh

@@ -1,9 +1,9 @@
 #!/usr/bin/env bash
-# Failed allocations in crates of tests, whose executables the gate leaves. Each test named here
-# runs once for each of its allocations, with that one refused, up to the first run that meets no
-# refusal; each run has to pass, and the number of refusals has to be what it is. A pool, an arena
-# or a store that isn't as it was before the failed call gives other answers, and so does a reader
-# that says `NoMemory` in place of a fault.
+# Failed allocations in crates of tests, whose executables CI builds. Each test named here
+# runs once for each of its allocations, with that one refused, up to the first run without a
+# refusal; each run has to pass, and the number of refusals has to be the expected one. A pool, an
+# arena or a store that isn't as it was before the failed call gives other results, and so does a
+# reader that returns `NoMemory` in place of a fault.
 #
 # Needs a C compiler.
 

@@ -1,6 +1,6 @@
 #!/usr/bin/env bash
-# The command line and the program's edges: wrong words, help, failing inputs and outputs, and their
-# statuses. Needs /dev/full (Linux) and Python 3.
+# The command line and the program's edges: usage errors, help, failing inputs and outputs, and
+# their statuses. Needs /dev/full (Linux) and Python 3.
 set -u
 . "$(dirname "$0")/lib.sh"
 
@@ -23,9 +23,9 @@ check_streams "the help is on standard output" some none
 run $'apply\xff'
 check_status "a word that isn't UTF-8" 2 says
 grep -q '^Usage' "$work/errors"
-check_last "a word that isn't UTF-8: the usage text is told"
+check_last "a word that isn't UTF-8: the usage text is printed"
 
-# output_failed CASE: the last run ended with 3, and told that the output failed.
+# output_failed CASE: the last run ended with 3, and reported that the output failed.
 output_failed() {
     check_status "$1" 3
     grep -qx 'cmcache: the output failed' "$work/errors"
@@ -39,12 +39,12 @@ status=$?
 output_failed "help into a closed output"
 "$program" nonsense >"$work/got" 2>/dev/full
 status=$?
-check_status "wrong words with a full standard error" 2
+check_status "a usage error with a full standard error" 2
 "$program" nonsense >"$work/got" 2>&-
 status=$?
-check_status "wrong words with a closed standard error" 2
+check_status "a usage error with a closed standard error" 2
 
-# Help is asked for before and after a command; it is no mistake.
+# Help can be asked for before and after a command; it is no error.
 for words in -h "format new --help" "apply -h"; do
     # shellcheck disable=SC2086
     run $words
@@ -52,16 +52,16 @@ for words in -h "format new --help" "apply -h"; do
     check_streams "help: $words" some none
 done
 
-# Numbers are whole, within their limits, and nothing else; each of them is told by its option.
-# Words that stand in no place are told with the usage text.
+# Numbers are whole, within their limits, and nothing else; an error names the option. For words
+# without a place the usage text is printed.
 mkdir "$work/folder"
 cd "$work/folder" || exit 1
-# wrong_words TEXT WORD..: the words are wrong, and standard error tells the text.
+# wrong_words TEXT WORD..: the words are a usage error, and standard error has the text.
 wrong_words() {
     run "${@:2}"
-    check_status "wrong words: ${*:2}" 2 says
+    check_status "usage error: ${*:2}" 2 says
     grep -qF -e "$1" "$work/errors"
-    check_last "wrong words: ${*:2}: \"$1\" is told"
+    check_last "usage error: ${*:2}: \"$1\" is printed"
 }
 for number in 8.0 eight "" " 8" 4294967304 18446744073709551624; do
     wrong_words "--top <N>" format new --top "$number"
@@ -78,10 +78,9 @@ for words in "format new --top -8" "apply --memory --workers -1" --version "chec
     wrong_words "Usage: cmcache" $words
 done
 [ -z "$(ls -A)" ]
-check_last "wrong words make no file"
+check_last "usage errors make no file"
 
-# A path is the word that stands in its place, whatever it looks like: after `--` an option's
-# name too.
+# A path is the word in its place, whatever it looks like; after `--` also an option's name.
 mkdir folder
 run format folder/a
 check_status "a path with a folder" 0
@@ -152,10 +151,10 @@ convert() {
 told() {
     check_status "define_lines.py: $1" 1
     [ "$(wc -l <"$work/errors")" = 1 ] && [[ $(<"$work/errors") == "define_lines.py: $2: "* ]]
-    check_last "define_lines.py: $1: one line tells it"
+    check_last "define_lines.py: $1: one line reports it"
 }
 # jar NAME METHOD [PLACE BITS]..: a jar of one class, stored (0) or deflated (8), in which these
-# bits are turned of the bytes at these places. Its file header begins at 0, the class's bytes at
+# bits of the bytes at these places are flipped. Its file header begins at 0, the class's bytes at
 # 37, and its entry in the directory at -75.
 jar() {
     python3 - "$work/$1.jar" "${@:2}" <<'END'
@@ -214,6 +213,6 @@ mkdir "$work/many"
 for i in $(seq 3000); do printf '\xca\xfe\xba\xbe%0200d' "$i" >"$work/many/$i.class"; done
 "$converter" app "$work/many" 2>"$work/errors" | head -1 >"$work/got"
 [ ! -s "$work/errors" ]
-check_last "define_lines.py: a closed pipe is no error to tell of"
+check_last "define_lines.py: a closed pipe isn't reported as an error"
 
 finish
