@@ -107,8 +107,8 @@ impl Arena {
         ensures memory { IsErrOf result PlaceRefusal.NoMemory → ¬ HasRoom self.old words }
         ensures err { OnErr result ((self.new ≡ self.old) × (pool.new ≡ pool.old)) }
     {
-        let top = pool.geometry().top();
-        if words > 128 << top {
+        let geometry = pool.geometry();
+        if words > geometry.root_words() {
             return Err(PlaceRefusal::RecordTooLong);
         }
         if let Some(place) = place_on_top(&self.chunks, &mut self.used, words) {
@@ -122,7 +122,7 @@ impl Arena {
             });
         }
         let need = order_for(words);
-        let wanted = need.max((self.chunks.len().min(4) as u32).min(top));
+        let wanted = need.max((self.chunks.len().min(4) as u32).min(geometry.top()));
         let chunk = fetch(pool, wanted, need)?;
         append(&mut self.chunks, &mut self.used, chunk, words);
         Ok(Place {
@@ -139,7 +139,8 @@ impl Arena {
         ensures full { IsTrue result ↔ IsFull self.now pool.old words }
         ensures left { pool.new ≡ pool.old }
     {
-        if words > 128 << pool.geometry().top() || pool.roots() < pool.geometry().roots() {
+        let geometry = pool.geometry();
+        if words > geometry.root_words() || pool.roots() < geometry.roots() {
             return false;
         }
         !has_room(&self.chunks, &self.used, words) && !has_free(pool, order_for(words))

@@ -6,7 +6,7 @@ ghost use Rattle.cm_pool.specs.FreeSpace.{HasFree};
 ghost use Rattle.cm_arena.specs.Placing.{IsNeed, IsWanted, IsNeeded, Fetches};
 
 use crate::refusal::PlaceRefusal;
-use cm_pool::{Chunk, Pool};
+use cm_pool::{Chunk, Pool, chunk_words};
 
 /// The least order whose chunks hold `words` words.
 pub fn order_for(words: u32) -> u32
@@ -15,7 +15,7 @@ pub fn order_for(words: u32) -> u32
     ensures small { result ≤ 12 }
 {
     let mut order = 0;
-    while 128 << order < words {
+    while chunk_words(order) < words {
         order += 1;
     }
     order

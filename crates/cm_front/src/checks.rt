@@ -88,7 +88,7 @@ impl Front {
         if self.book.class_like(loader, class).is_some() {
             return Err(Refusal::ClassExists);
         }
-        if class.words() > 128 << self.space.geometry().top() {
+        if class.words() > self.space.geometry().root_words() {
             return Err(Refusal::RecordTooLong);
         }
         if self.is_journal_full(1) {

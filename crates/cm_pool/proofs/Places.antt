@@ -57,9 +57,6 @@ in_root-fits i t o le top =
     (small o (omega arith)) in
     omega arith
 
-pub size-fits : (o : ℕ) → o ≤ 12 → 128 * 2 ^ o % 2 ^ 32 ≡ 128 * 2 ^ o
-size-fits o le = mod-eq_of_lt (omega (arith, small o le))
-
 abbrev pub chunk_at : ℕ → Block → Chunk
 chunk_at t b =
     record {

@@ -1,7 +1,7 @@
 // A block of the binary tree of halves over all roots.
 ghost use Rattle.std.specs.Prelude.{◌≡◌, ◌+◌, ◌-◌, ◌*◌, ◌/◌, ◌^◌, ◌<◌, ◌≤◌, ◌↔◌, ℕ, IsTrue};
 
-use crate::chunk::Chunk;
+use crate::chunk::{Chunk, chunk_words};
 
 /// The `index`-th block of its order, counted through the roots in granules of 128 words: the
 /// granules from `index * 2^order` up to the next block.
@@ -133,7 +133,7 @@ impl Block {
         Chunk {
             root: self.index / in_root,
             order: self.order,
-            at: (self.index % in_root) * (128 << self.order),
+            at: (self.index % in_root) * chunk_words(self.order),
         }
     }
 }

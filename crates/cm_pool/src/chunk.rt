@@ -1,5 +1,6 @@
 // A chunk: a part of a root whose size is a power of two.
 ghost use Rattle.std.specs.Prelude.{◌≡◌, ◌+◌, ◌^◌, ◌≤◌, ◌↔◌, min, IsTrue};
+ghost use Rattle.cm_pool.specs.Chunks.{chunk_size};
 
 use crate::geometry::Geometry;
 
@@ -18,8 +19,16 @@ pub struct Chunk {
 /// 26 or more does.
 const FAR: u64 = 1 << 33;
 
+/// How many words a chunk of this order has.
+pub fn chunk_words(order: u32) -> u32
+    requires { order ≤ 24 }
+    ensures { result ≡ chunk_size order }
+{
+    128 << order
+}
+
 impl Chunk {
-    ghost use Rattle.cm_pool.specs.Chunks.{chunk_size, Meets, IsChunk};
+    ghost use Rattle.cm_pool.specs.Chunks.{Meets, IsChunk};
 
     /// Whether the two chunks share a word.
     pub fn meets(&self, other: &Chunk) -> bool
@@ -35,11 +44,10 @@ impl Chunk {
     pub fn is_within(&self, geometry: Geometry) -> bool
         ensures { IsTrue result ↔ IsChunk geometry self.now }
     {
-        let top = geometry.top();
-        self.order <= top
+        self.order <= geometry.top()
             && self.root < geometry.roots()
             && self.at % self.size() == 0
-            && u64::from(self.at) + u64::from(self.size()) <= 128 << top
+            && u64::from(self.at) + u64::from(self.size()) <= u64::from(geometry.root_words())
     }
 
     /// How many words a chunk of a region has.
@@ -47,7 +55,7 @@ impl Chunk {
         requires { self.now.order ≤ 12 }
         ensures { result ≡ chunk_size self.now.order }
     {
-        128 << self.order
+        chunk_words(self.order)
     }
 
     // The word after the chunk's last, or `FAR` if that is further on.

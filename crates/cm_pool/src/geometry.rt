@@ -1,6 +1,8 @@
 // The sizes of a region.
 ghost use Rattle.std.specs.Prelude.{◌≡◌, ◌↔◌, IsSome, IfSome};
+ghost use Rattle.cm_pool.specs.Chunks.{chunk_size};
 
+use crate::chunk::chunk_words;
 use std::marker::Model;
 
 /// The least order that a root can have.
@@ -70,12 +72,19 @@ impl Geometry {
         ensures { IsGeometry self }
     {}
 
-    /// The order of a root chunk, which has `128 << top` words.
+    /// The order of a root chunk.
     pub fn top(self) -> u32
         ensures value { result ≡ self.top }
         ensures within { IsGeometry self }
     {
         self.top
+    }
+
+    /// How many words a root chunk has.
+    pub fn root_words(self) -> u32
+        ensures { result ≡ chunk_size self.top }
+    {
+        chunk_words(self.top())
     }
 
     /// How many root chunks there can be.

@@ -17,7 +17,7 @@ pub use bit_row::BitRow;
 // The plain body of a pool uses the same blocks.
 #[doc(hidden)]
 pub use block::Block;
-pub use chunk::Chunk;
+pub use chunk::{Chunk, chunk_words};
 pub use geometry::{
     Geometry, LEAST_ROOTS, LEAST_SLOTS, LEAST_TOP, MOST_ROOTS, MOST_SLOTS, MOST_TOP,
 };

@@ -1,7 +1,7 @@
-use Rattle.std.proofs.Common.{◌≡◌, ℕ, ◌*◌, ◌%◌, ◌^◌, ◌≤◌, List, [], ◌∷◌, ◌++◌, length, refl}
+use Rattle.std.proofs.Common.{◌≡◌, ℕ, ◌^◌, ◌≤◌, List, [], ◌∷◌, ◌++◌, length, refl}
 use Rattle.std.proofs.Common.{sym, ap, ◌∙◌, subst, inl, inr, arith, length-append}
 use Rattle.std.specs.List.{AllByRecursion}
-use Rattle.std.proofs.Math.Nat.{pow-le-pow_right, mod-eq_of_lt}
+use Rattle.std.proofs.Math.Nat.{pow-le-pow_right}
 use Rattle.cm_pool.specs.declared.chunk.Chunk.{Chunk}
 use Rattle.cm_pool.specs.Geometry.{Sizes}
 use Rattle.cm_pool.specs.Chunks.{chunk_size}
@@ -11,16 +11,20 @@ use Rattle.cm_arena.proofs.Places.{place-inside, place-held, place-none_lost}
 use Rattle.cm_arena.proofs.ChainFacts.{chain_of-push, filled-push, length-chain_of}
 use Rattle.cm_arena.proofs.Fetching.{fetched-order, fetched-small}
 use Rattle.cm_arena.proofs.arena.Arena.place.Goals as goal
-use Rattle.cm_arena.proofs.arena.Arena.place.Goals.{After-append, After-top-top, In-Some}
+use Rattle.cm_arena.proofs.arena.Arena.place.Goals.{After-append, After-geometry-geometry, In-Some}
 
 pub order_for-need-requires : goal.order_for-need-requires
 order_for-need-requires c =
-    let small : c.top-top.result ≤ 12 =
-    omega (arith, c.top-top.ensures.value, c.top-top.ensures.within.top_to) in
-    let size : 2 ^ c.top-top.result ≤ 2 ^ 12 = pow-le-pow_right {n = 2} (omega arith) small in
-    let fits : 128 * 2 ^ c.top-top.result % 2 ^ 32 ≡ 128 * 2 ^ c.top-top.result =
-    mod-eq_of_lt (omega arith) in
-    omega arith
+    let small : c.geometry-geometry.result.top ≤ 12 =
+    omega (
+      arith,
+      c.geometry-geometry.ensures.lawful.geometry.top_to,
+      ap (λ (g : Sizes). g.top)
+          c.geometry-geometry.ensures.value,
+    ) in
+    let size : 2 ^ c.geometry-geometry.result.top ≤ 2 ^ 12 =
+    pow-le-pow_right {n = 2} (omega arith) small in
+    omega (arith, c.root_words.ensures)
 
 chunks : (c : After-append)
     → c.append.new.chunks.items ≡ c.self.inside.chunks.items ++ c.in_ok-chunk.chunk ∷ []
@@ -52,8 +56,8 @@ wanted : (c : After-append)
     → c.max-wanted.result ≡ order_wanted c.order_for-need.result (length c.args.self.now)
     c.args.pool.now.geometry.top
 wanted c =
-    let top : c.top-top.result ≡ c.args.pool.now.geometry.top = c.top-top.ensures.value ∙ ap
-    (λ (g : Sizes). g.top) c.geometry.ensures.value in
+    let top : c.top.result ≡ c.args.pool.now.geometry.top = c.top.ensures.value ∙ ap
+    (λ (g : Sizes). g.top) c.geometry-geometry.ensures.value in
     omega (arith, len c, top, c.max-wanted.ensures, c.min.ensures, c.min-2.ensures)
 
 -- the chunk is large enough
@@ -71,7 +75,7 @@ room c =
         arith,
         fetched-small c.args.pool.now c.fetch.new.pool c.max-wanted.result
             c.order_for-need.result c.in_ok-chunk.chunk c.in_ok-chunk.ensures.ok,
-        c.geometry.ensures.lawful.geometry.top_to,
+        c.geometry-geometry.ensures.lawful.geometry.top_to,
       ),
     )
 
@@ -124,7 +128,7 @@ returns-clause-ok c =
       };
     })
 
--- what is known where the last chunk had room
+-- what is known if the last chunk had room
 on_top : (c : In-Some)
     → Places c.args.self.now c.args.pool.now c.args.words c.in-Some.place
     (chain_of c.self.inside.chunks.items c.place_on_top.new.used.items) c.args.pool.now
@@ -140,8 +144,8 @@ on_top c =
       refl,
     )
 
-small : (c : After-top-top) → c.args.pool.now.geometry.top ≤ 12
-small c = c.geometry.ensures.lawful.geometry.top_to
+small : (c : After-geometry-geometry) → c.args.pool.now.geometry.top ≤ 12
+small c = c.geometry-geometry.ensures.lawful.geometry.top_to
 
 pub returns-in-Some-clause-inside : goal.returns-in-Some-clause-inside
 returns-in-Some-clause-inside c =
@@ -149,7 +153,7 @@ returns-in-Some-clause-inside c =
     place-inside c.args.self.now (chain_of c.self.inside.chunks.items c.place_on_top.new.used.items)
     c.args.pool.now c.args.pool.now c.args.words c.in-Some.place
     (subst (AllByRecursion IsFilled) c.self.view_is c.self.invariant.each) c.requires
-    (small at.After-top-top) (on_top at.In-Some)
+    (small at.After-geometry-geometry) (on_top at.In-Some)
 
 pub returns-in-Some-clause-alone : goal.returns-in-Some-clause-alone
 returns-in-Some-clause-alone c = λ others.
@@ -163,7 +167,7 @@ returns-clause-inside c =
     c.args.pool.now c.fetch.new.pool c.args.words
     (record { chunk = c.in_ok-chunk.chunk; offset = 0; words = c.args.words })
     (subst (AllByRecursion IsFilled) c.self.view_is c.self.invariant.each) c.requires
-    (small (goal.at.returns-clause-inside c).After-top-top) (returns-clause-ok c)
+    (small (goal.at.returns-clause-inside c).After-geometry-geometry) (returns-clause-ok c)
 
 pub returns-clause-alone : goal.returns-clause-alone
 returns-clause-alone c = λ others.
