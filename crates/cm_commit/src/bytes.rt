@@ -37,7 +37,8 @@ pub(crate) fn put_record(buffer: &mut Vec<u8>, class: &Record)
     ensures bytes { buffer.new.items ≡ word_bytes class.now }
     ensures room { vec_capacity buffer.old ≤ vec_capacity buffer.new }
 {
-    put_zeros(buffer, 8 * class.words() as usize);
+    // Only what is longer than what was there is filled with zeros first.
+    buffer.resize(8 * class.words() as usize, 0).unwrap();
     class.bytes_into(buffer);
 }
 
