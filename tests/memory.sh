@@ -44,7 +44,7 @@ sweep_threads() {
     WORK=$work tests/refused_memory.py "$files" "$library" "$1" threads FILE --threads 1
     check_last "a cache for threads with a refused allocation"
 }
-beside sweep_threads 352
+beside sweep_threads 353
 end_sweeps
 
 bench=$(find_program cm_bench)

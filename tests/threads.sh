@@ -2,7 +2,8 @@
 # `apply` with several workers writes what it writes with one, on the output and in the file, also
 # if a device call fails, and replies to each line before the next one arrives; a run with workers
 # that is killed keeps what it acknowledged; and threads that define, find and unload in one file at
-# once get the replies that one thread would get, and leave the file in accordance with them.
+# once get the replies that one thread would get, and leave the file in accordance with them, also
+# if they are killed.
 # SCRIPTS=N runs N random scripts instead of 1,000, KILLS=N kills N runs instead of 50, SOAK=N has
 # the threads work for N seconds instead of one, SEED=N uses other scripts and moments. Needs a C
 # compiler and Python 3.
@@ -34,6 +35,11 @@ cat "$work/told"
 bench=$(find_program cm_bench_files)
 WORK=$work python3 tests/soak.py "$(executable)" "$bench" 16 "${SOAK:-1}" >"$work/told"
 check_last "sixteen threads on one file"
+cat "$work/told"
+
+WORK=$quick python3 tests/soak_kill.py "$(executable)" "$bench" 16 "${KILLS:-50}" "$seed" \
+    >"$work/told"
+check_last "sixteen threads on one file that are killed"
 cat "$work/told"
 
 finish

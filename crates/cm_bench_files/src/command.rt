@@ -45,6 +45,8 @@ pub struct Soaking {
     pub path: String,
     pub threads: u32,
     pub seconds: u32,
+    /// Whether each call is printed before it is made, and again as it returns.
+    pub is_live: bool,
 }
 
 /// How threads define classes in a new file.
@@ -132,6 +134,13 @@ fn unprepared<'a>(alloc: Global) -> Arg<'a> {
         .action(ArgAction::SetTrue)
 }
 
+fn live<'a>(alloc: Global) -> Arg<'a> {
+    Arg::new(alloc, "live")
+        .long("live")
+        .help("Print each call before it is made, and its result as it returns")
+        .action(ArgAction::SetTrue)
+}
+
 fn put_command<'a>(alloc: Global) -> Result<Command<'a>, AllocError> {
     let args = vec![in alloc;
         file(alloc, "The file to make"),
@@ -159,6 +168,7 @@ fn soak_command<'a>(alloc: Global) -> Result<Command<'a>, AllocError> {
         file(alloc, "The file to open"),
         threads(alloc, "16"),
         number(alloc, "seconds", "1", (1, 86_400), help),
+        live(alloc),
     ]?;
     Command::new(alloc, "soak")
         .about("Has threads define, find and unload the classes on standard input in a file")
@@ -244,6 +254,7 @@ fn soaking_of(alloc: Global, given: &ArgMatches<'_>) -> Result<Soaking> {
         path: path_of(alloc, given)?,
         threads: given.get_one("threads").ok_or(UnknownWords)?,
         seconds: given.get_one("seconds").ok_or(UnknownWords)?,
+        is_live: given.get_flag("live"),
     })
 }
 

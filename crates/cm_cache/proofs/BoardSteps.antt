@@ -5,7 +5,7 @@ use Rattle.std.proofs.Common.{◌∷◌, set, refl, sym, ap, subst, ◌∙◌, �
 use Rattle.std.specs.Prelude.{slice_index, slice_set}
 use mathlib.Core.Option.{some, some-ne-none, some-injective}
 use lib.ListN.{get_elem?}
-use Rattle.atomic_table.specs.Table.{State, Me, Allows, Enters, Joins, opening, keeps}
+use Rattle.atomic_table.specs.Table.{Allows, Enters, Joins, opening, keeps}
 use Rattle.atomic_table.proofs.Lists.{at_set, at_snoc}
 use Rattle.cm_cache.specs.declared.board_view.BoardView.{BoardView}
 use Rattle.cm_cache.specs.Board.{flag_of, is_set, poster, reader, hearing, FitsBoard, IsBoard}

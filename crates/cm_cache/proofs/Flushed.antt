@@ -1,7 +1,7 @@
 -- What was received matches what is durable, before and after each step of the flusher.
 -- For `Flushing`, `Ended`.
-use Rattle.std.proofs.Common.{◌≡◌, ℕ, ◌+◌, ◌<◌, ◌≤◌, Bool, true, false, true≢false, List, [], ◌∷◌}
-use Rattle.std.proofs.Common.{◌++◌, Some, None, length, refl, sym, ap, subst, ◌∙◌, arith}
+use Rattle.std.proofs.Common.{◌≡◌, ℕ, ◌<◌, ◌≤◌, true, false, true≢false, List, [], ◌∷◌}
+use Rattle.std.proofs.Common.{◌++◌, Some, None, refl, sym, ap, subst, ◌∙◌, arith}
 use Rattle.std.proofs.Common.{append_assoc}
 use Rattle.std.specs.Prelude.{Option, is_some}
 use Rattle.std.proofs.lemmas.List.{length-append, append-nil}
@@ -18,7 +18,7 @@ use Rattle.cm_cache.specs.declared.channel.Message.{Message}
 use Rattle.cm_cache.specs.declared.channel.Message.TheVariants.{Group, End}
 use Rattle.cm_cache.specs.Channel.{entries_of, is_open, MayBeSent}
 use Rattle.cm_cache.specs.Storing.{IsCommittedGroup, IsLeftBroken}
-use Rattle.cm_cache.specs.Flushing.{waiting, WaitsOn, HasCommitted, FlushingState, IsFlushing}
+use Rattle.cm_cache.specs.Flushing.{waiting, WaitsOn, FlushingState, IsFlushing}
 use Rattle.cm_cache.specs.Flushing.{EndedState, IsEnded, IsOldest}
 use Rattle.cm_cache.proofs.Tied.{entries-append}
 
@@ -201,7 +201,10 @@ module _ {D : Type 0} (base : Base) (failed : ℕ) (failures : D → ℕ) where
       (posted : Seen) → IsFlushing base failed failures f → f.next ≡ Some group
       → IsCommittedGroup f.committer group told committer
       → failures f.committer.disk ≤ failures committer.disk
-      → posted ≡ record { receipt = record { number = told }; broken = f.posted.broken }
+      → posted ≡ record {
+        receipt = record { number = committer.number };
+        broken = f.posted.broken;
+      }
       → IsFlushing base failed failures
       (record f { committer = committer; posted = posted; next = None })
   stored f group told committer posted i next_is is later says = record {
@@ -226,7 +229,6 @@ module _ {D : Type 0} (base : Base) (failed : ℕ) (failures : D → ℕ) where
     idle = is.idle;
     says =
         says
-        ∙ ap (λ n. record { receipt = record { number = n }; broken = f.posted.broken }) is.is_told
         ∙ ap (λ (s : Seen). record {
           receipt = record { number = committer.number };
           broken = s.broken;

@@ -1,10 +1,10 @@
 -- What a cache that ran leaves, from what was sent and what its flusher left.
 -- For `Ended::leave`.
-use Rattle.std.proofs.Common.{◌≡◌, ℕ, ◌+◌, ◌-◌, ◌<◌, ◌≤◌, Bool, true, false, true≢false, List, []}
+use Rattle.std.proofs.Common.{◌≡◌, ℕ, ◌+◌, ◌-◌, ◌≤◌, Bool, true, false, List, []}
 use Rattle.std.proofs.Common.{◌∷◌, ◌++◌, Some, None, length, refl, sym, ap, subst, ◌∙◌, arith}
 use Rattle.std.proofs.Common.{inl, inr, append_assoc}
-use Rattle.std.specs.Prelude.{Option, ◌⊎◌, take}
-use Rattle.std.proofs.lemmas.List.{length-append, append-nil}
+use Rattle.std.specs.Prelude.{Option, ◌⊎◌}
+use Rattle.std.proofs.lemmas.List.{length-append}
 use Rattle.std.proofs.Math.Seq.{take-append_seam}
 use Rattle.cm_disk.specs.Disk.{Unsynced}
 use Rattle.cm_pool.specs.Geometry.{Sizes}
@@ -22,7 +22,7 @@ use Rattle.cm_cache.specs.declared.channel.Message.{Message}
 use Rattle.cm_cache.specs.declared.channel.Message.TheVariants.{Group, End}
 use Rattle.cm_cache.specs.Channel.{entries_of, InOrder}
 use Rattle.cm_cache.specs.Flushing.{HasCommitted, IsOldest, EndedState, IsEnded}
-use Rattle.cm_cache.specs.Closing.{ShowsBeginning, LeavesBeginning}
+use Rattle.cm_cache.specs.Closing.{ShowsBeginning}
 
 -- ---- what was sent follows
 
@@ -46,6 +46,15 @@ in_order_follows base before (End ∷ sent) o =
     (λ (l : List Message). AllFollow base.sizes (rows_after_group base.rows before)
     (base.number + length before) (entries_of l)) (sym o) tt
 
+pub sent_follow : (base : Base) (sent : List Message) → InOrder base [] sent
+    → AllFollow base.sizes base.rows base.number (entries_of sent)
+sent_follow base sent ordered =
+    subst (λ n. AllFollow base.sizes base.rows n (entries_of sent)) first
+    (in_order_follows base [] sent ordered)
+  where
+    first : base.number + 0 ≡ base.number
+    first = omega arith
+
 -- ---- what is committed, and what is under way
 
 at_gate : (stages : List Stage) (before after : List ℕ → Type 0) (image : List ℕ)
@@ -53,7 +62,7 @@ at_gate : (stages : List Stage) (before after : List ℕ → Type 0) (image : Li
 at_gate [] before after image l = l.which
 at_gate (stage ∷ stages) before after image l = inl l
 
-either : (left : List Stage) (before after : List ℕ → Type 0) (image : List ℕ)
+pub either : (left : List Stage) (before after : List ℕ → Type 0) (image : List ℕ)
     → leaves left before after image → before image ⊎ after image
 either [] before after image l = inl l
 either (Store writes ∷ stages) before after image l = inl l
@@ -84,14 +93,14 @@ module _ {D : Type 0} (base : Base) (done : List Carried) (s : CommitterState D)
         (sym (take-append_seam first rest)) shows;
   }
 
-  committed : (rest : List Carried) (image : List ℕ) → ShowsCommitted s image
+  pub committed : (rest : List Carried) (image : List ℕ) → ShowsCommitted s image
       → ShowsBeginning base (done ++ rest) least image
   committed rest image shows =
       begins image done rest (let is = least_is in omega (arith, is))
       (subst (λ (x : Sizes × (List (Row (List ℕ)) × ℕ)). ShowsCache x.0 x.1.0 x.1.1 image)
       (λ i. (at.sizes i, (at.rows i, at.number i))) shows)
 
-  with_group : (group : Handed) (more : List Carried) (image : List ℕ)
+  pub with_group : (group : Handed) (more : List Carried) (image : List ℕ)
       → ShowsCache s.sizes (rows_after_group s.rows group.entries)
       (s.number + length group.entries) image
       → ShowsBeginning base (done ++ (group.entries ++ more)) least image
@@ -126,7 +135,7 @@ module _ {D : Type 0} (base : Base) (done : List Carried) (s : CommitterState D)
       subst (λ l. ShowsBeginning base (done ++ l) least image) (sym oldest.1)
       (with_group group oldest.0 image shows)
 
-  one_of : (rest : List Carried) → IsOldest s.underway rest → (image : List ℕ)
+  pub one_of : (rest : List Carried) → IsOldest s.underway rest → (image : List ℕ)
       → ShowsCommitted s image ⊎ ShowsWith s s.underway image
       → ShowsBeginning base (done ++ rest) least image
   one_of rest oldest image (inl shows) = committed rest image shows
@@ -149,26 +158,18 @@ module _ {D : Type 0} (base : Base) (failed : ℕ) (failures : D → ℕ) (e : E
       let count = length-append i.done i.rest in
       omega (arith, number, entries, count)
 
-  pub leaves_beginning : (contents : List ℕ) (unsynced : Unsynced) → InOrder base [] sent
+  pub shows_sent : (contents : List ℕ) (unsynced : Unsynced)
       → EachImage contents unsynced (MayLeave e.committer)
-      → LeavesBeginning base (length (entries_of sent)) (e.committer.number - base.number)
-      contents unsynced
-  leaves_beginning contents unsynced ordered images = record {
-    all = i.done ++ i.rest;
-    count = sym (ap length entries_are);
-    follow =
-        subst (λ (x : ℕ × List Carried). AllFollow base.sizes base.rows x.0 x.1)
-        (λ k. (first k, entries_are k)) (in_order_follows base [] sent ordered);
-    images = record {
-      each = λ image is.
-          one_of base i.done e.committer i.at i.rest i.oldest image
-          (either e.committer.left (ShowsCommitted e.committer)
-          (ShowsWith e.committer e.committer.underway) image (images.each image is));
-    };
+      → EachImage contents unsynced
+      (ShowsBeginning base (entries_of sent) (e.committer.number - base.number))
+  shows_sent contents unsynced images = record {
+    each = λ image is.
+        subst (λ l. ShowsBeginning base l (e.committer.number - base.number) image)
+        (sym entries_are)
+        (one_of base i.done e.committer i.at i.rest i.oldest image
+        (either e.committer.left (ShowsCommitted e.committer)
+        (ShowsWith e.committer e.committer.underway) image (images.each image is)));
   }
-    where
-      first : base.number + 0 ≡ base.number
-      first = omega arith
 
   -- the device didn't fail, so nothing is left
   unbroken : failures e.committer.disk ≡ failed → (b : Bool) → e.committer.broken ≡ b

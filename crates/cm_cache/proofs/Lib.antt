@@ -4,6 +4,7 @@ mod Tied
 mod Stored
 mod Flushed
 mod Leaving
+mod Moments
 mod Counted
 mod Found
 mod Opened

@@ -1,19 +1,27 @@
 -- What the device calls of a group do to a committer.
 -- For `store_group`, `make_calls`.
-use Rattle.std.proofs.Common.{◌≡◌, ℕ, ◌+◌, ◌-◌, ◌<◌, ◌≤◌, Bool, true, false, true≢false, List, []}
-use Rattle.std.proofs.Common.{Some, None, Ok, Err, length, refl, sym, ap, subst, ◌∙◌, arith}
+use Rattle.std.proofs.Common.{◌≡◌, ℕ, ◌+◌, ◌-◌, ◌<◌, ◌≤◌, true≢false, List, []}
+use Rattle.std.proofs.Common.{Some, None, Err, length, refl, sym, ap, subst, ◌∙◌, arith, inl}
+use Rattle.std.proofs.Common.{inr}
 use Rattle.std.specs.Prelude.{Option, IfSome, IfNone}
-use Rattle.cm_disk.specs.Disk.{View}
+use Rattle.cm_disk.specs.Disk.{View, OnlyNow}
+use Rattle.cm_pool.specs.Geometry.{Sizes}
+use Rattle.cm_layout.specs.declared.row.Row.{Row}
 use Rattle.cm_group.specs.declared.receipt.Receipt.{Receipt}
 use Rattle.cm_group.specs.Groups.{Handed}
+use Rattle.cm_guards.specs.Calls.{LeavesOnly}
+use Rattle.cm_guards.specs.Guards.{EachImage}
 use Rattle.cm_guards.specs.Stages.{Stage, calls_left, after_call}
-use Rattle.cm_guards.proofs.{one_call_less}
+use Rattle.cm_guards.proofs.{one_call_less, leaves_none, leaves_on, leaves_more, leaves_so}
+use Rattle.cm_guards.proofs.{leaves_one}
 use Rattle.cm_commit.specs.declared.progress.AdvanceFault.{AdvanceFault}
 use Rattle.cm_commit.specs.declared.progress.AdvanceFault.TheVariants.{Device, Broken}
 use Rattle.cm_commit.specs.Offers.{rows_after_group}
 use Rattle.cm_commit.specs.States.{Storing, Trimming, CommitterState, TakesGroup, with_taken}
-use Rattle.cm_commit.specs.Advances.{Trims, Advances, HasRisen, Rests, Works, Finishes, CallFails}
+use Rattle.cm_commit.specs.States.{ShowsCache, ShowsCommitted, ShowsWith, MayLeave}
+use Rattle.cm_commit.specs.Advances.{Trims, Advances, HasRisen, Rests, Works, Finishes}
 use Rattle.cm_cache.specs.Storing.{SameCommitted, IsUnderway, IsCommittedGroup, IsLeftBroken}
+use Rattle.cm_cache.specs.Storing.{ShowsEither}
 
 some_is : (a b : Handed) → Some (Storing a) ≡ Some (Storing b) → a ≡ b
 some_is a b e = cc
@@ -133,6 +141,58 @@ module _ {D : Type 0} where
     where
       differ : Some Trimming ≡ Some (Storing group) → ⊥
       differ e = cc
+
+  -- ---- at each moment
+
+  shows_before : (old s : CommitterState D) (group : Handed) → SameCommitted old s
+      → (image : List ℕ) → ShowsCommitted s image → ShowsEither old group image
+  shows_before old s group same image shows = record {
+    which = inl (subst
+        (λ (x : Sizes × (List (Row (List ℕ)) × ℕ)). ShowsCache x.0 x.1.0 x.1.1 image)
+        (λ i. (same.sizes i, (same.rows i, same.number i))) shows);
+  }
+
+  shows_after : (old s : CommitterState D) (group : Handed) → SameCommitted old s
+      → (image : List ℕ) → ShowsWith s (Some (Storing group)) image → ShowsEither old group image
+  shows_after old s group same image shows = record {
+    which = inr (subst
+        (λ (x : Sizes × (List (Row (List ℕ)) × ℕ)).
+        ShowsCache x.0 (rows_after_group x.1.0 group.entries) (x.1.1 + length group.entries) image)
+        (λ i. (same.sizes i, (same.rows i, same.number i))) shows);
+  }
+
+  shows_either : (old s : CommitterState D) (group : Handed) → IsUnderway old group s
+      → (image : List ℕ) → MayLeave s image → ShowsEither old group image
+  shows_either old s group u image l =
+      leaves_one s.left (ShowsEither old group) image
+      (leaves_so s.left (ShowsCommitted s) (ShowsWith s s.underway) (ShowsEither old group)
+      (ShowsEither old group) (shows_before old s group u.same)
+      (λ x shows. shows_after old s group u.same x
+      (subst (λ o. ShowsWith s o x) u.group_is shows)) image l)
+
+  pub no_moment : (view : View D) → OnlyNow view → (s : CommitterState D) (group : Handed)
+      → EachImage (view.contents s.disk) (view.unsynced s.disk) (MayLeave s)
+      → IsUnderway s group s → LeavesOnly view s.disk s.disk (ShowsEither s group)
+  no_moment view only_now s group images u =
+      leaves_none view only_now s.disk (ShowsEither s group)
+      (record { each = λ image is. shows_either s s group u image (images.each image is) })
+
+  pub one_more_call : (view : View D) (old s new : CommitterState D) (group : Handed)
+      → IsUnderway old group s → LeavesOnly view old.disk s.disk (ShowsEither old group)
+      → LeavesOnly view s.disk new.disk (MayLeave s)
+      → LeavesOnly view old.disk new.disk (ShowsEither old group)
+  one_more_call view old s new group u before call =
+      leaves_on view old.disk s.disk new.disk (ShowsEither old group) before
+      (leaves_more view s.disk new.disk (MayLeave s) (ShowsEither old group)
+      (shows_either old s group u) call)
+
+  -- the offer made no call
+  pub moments_since_offer : (view : View D) (old s new : CommitterState D) (group : Handed)
+      → s ≡ with_taken view old group → LeavesOnly view s.disk new.disk (ShowsEither s group)
+      → LeavesOnly view old.disk new.disk (ShowsEither old group)
+  moments_since_offer view old s new group is leaves =
+      subst (λ (t : CommitterState D). LeavesOnly view t.disk new.disk (ShowsEither t group)) is
+      leaves
 
   -- ---- after the offer
 

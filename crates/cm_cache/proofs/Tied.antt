@@ -1,8 +1,12 @@
 -- The accepted cache matches what was sent, before and after each call.
 -- For `Handing`.
-use Rattle.std.proofs.Common.{◌≡◌, ℕ, ◌+◌, ◌-◌, ◌≤◌, Bool, true, List, [], ◌∷◌, ◌++◌, length, Some}
-use Rattle.std.proofs.Common.{refl, sym, ap, subst, ◌∙◌, arith, append_assoc}
-use Rattle.std.specs.Prelude.{max, take, drop, Result, Ok, Err, IsOk, OnOk, OnErr}
+use Rattle.std.proofs.Common.{◌≡◌, ℕ, ◌+◌, ◌-◌, ◌≤◌, Bool, List, [], ◌∷◌, ◌++◌, length}
+use Rattle.std.proofs.Common.{refl, sym, ap, subst, ◌∙◌, arith, append_assoc, ◌<◌, false, true}
+use Rattle.std.proofs.Common.{true≢false, ⊎_elim}
+use Rattle.std.specs.Prelude.{max, take, drop, Result, Ok, Err, IsOk, OnOk, OnErr, ◌↔◌, leb}
+use Rattle.std.specs.Prelude.{if◌then◌else◌}
+use Rattle.std.proofs.lemmas.Bool.{le-leb}
+use Rattle.std.proofs.lemmas.Bool.Decides.{leb_tells}
 use Rattle.std.specs.List.{flat_map}
 use Rattle.cm_pool.specs.Geometry.{Sizes}
 use Rattle.std.proofs.lemmas.List.{length-append, append-nil, take-append-drop, length-take-le}
@@ -10,7 +14,7 @@ use Rattle.cm_layout.specs.declared.row.Row.{Row}
 use Rattle.cm_group.specs.Groups.{Carried, Handed}
 use Rattle.cm_state.specs.Step.{Change}
 use Rattle.cm_state.specs.Entries.{change_of}
-use Rattle.cm_commit.specs.Offers.{filled, rows_after_group}
+use Rattle.cm_commit.specs.Offers.{rows_after_group}
 use Rattle.cm_front.specs.declared.front.Stranger.{Stranger}
 use Rattle.cm_front.specs.Front.{FrontState, IsFront}
 use Rattle.cm_front.specs.Accepting.{FrontAccepts, begun_by, carried, joined_by, with_learnt}
@@ -24,7 +28,7 @@ use Rattle.cm_cache.specs.declared.channel.Message.{Message}
 use Rattle.cm_cache.specs.declared.channel.Message.TheVariants.{Group, End}
 use Rattle.cm_cache.specs.Channel.{entries_of, is_open}
 use Rattle.cm_cache.specs.Handing.{HandingState, rows_sent, number_sent, IsTied, IsFresh}
-use Rattle.cm_cache.specs.Handing.{TakesOut, HandsOver, SameMarks}
+use Rattle.cm_cache.specs.Handing.{TakesOut, HandsOver, SameMarks, with_receipt}
 
 -- ---- messages
 
@@ -254,11 +258,20 @@ learn_is_tied commits learns base h number new t (Ok x) known ok err is =
 learn_is_tied commits learns base h number new t (Err e) known ok err is =
     subst (λ f. IsTied base (record { front = f; sent = h.sent })) (sym err) t
 
--- learning says nothing about a failure
-pub learn_keeps_broken : (s new : FrontState) (number : ℕ) (r : Result (Unit {0}) Stranger)
-    → OnOk r (new ≡ with_learnt s number) → OnErr r (new ≡ s) → new.broken ≡ s.broken
-learn_keeps_broken s new number (Ok x) ok err = ap (λ (f : FrontState). f.broken) ok
-learn_keeps_broken s new number (Err e) ok err = ap (λ (f : FrontState). f.broken) err
+-- a receipt is taken exactly if its number was handed out
+pub learnt_by_receipt : (s new : FrontState) (number : ℕ) (r : Result (Unit {0}) Stranger)
+    → (IsOk r ↔ (number ≤ s.sealed)) → OnOk r (new ≡ with_learnt s number) → OnErr r (new ≡ s)
+    → new ≡ with_receipt s number
+learnt_by_receipt s new number (Ok x) known ok err =
+    subst (λ b. new ≡ (if b then with_learnt s number else s))
+    (sym (le-leb number s.sealed (known.0 refl))) ok
+learnt_by_receipt s new number (Err e) known ok err =
+    ⊎_elim
+    (λ (t : (leb number s.sealed ≡ true) × (number ≤ s.sealed)).
+    absurd (true≢false (sym (known.1 t.1))))
+    (λ (t : (leb number s.sealed ≡ false) × (s.sealed < number)).
+    subst (λ b. new ≡ (if b then with_learnt s number else s)) (sym t.0) err)
+    (leb_tells number s.sealed)
 
 -- ---- failed and closed
 

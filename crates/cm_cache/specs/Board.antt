@@ -3,6 +3,9 @@ use Rattle.std.specs.Prelude.{◌≡◌, ℕ, ◌≤◌, ◌==◌, not, Bool, tr
 use mathlib.Core.Option.{some}
 use lib.ListN.{get_elem?}
 use Rattle.atomic_table.specs.Table.{State, Me}
+use Rattle.cm_pool.specs.Geometry.{Sizes}
+use Rattle.cm_layout.specs.declared.row.Row.{Row}
+use Rattle.cm_commit.specs.States.{ShowsCache}
 use Rattle.cm_cache.specs.declared.board_view.Seen.{Seen}
 use Rattle.cm_cache.specs.declared.board_view.BoardView.{BoardView}
 
@@ -87,3 +90,12 @@ abbrev pub HasCompared : Mine → ℕ → Mine → Type 0
 HasCompared me n after =
     (after.0 ≡ me.0) × (after.1 ≡ me.1) × (me.0.heard_number ≤ me.0.number)
     × (me.0.heard_broken ≡ true → me.0.broken ≡ true)
+
+-- ---- what is stored
+
+-- the image holds a cache whose last command has this number or a later one
+pub record ShowsFrom (sizes : Sizes) (least : ℕ) (image : List ℕ) : Type 0 where
+  pub rows : List (Row (List ℕ))
+  pub number : ℕ
+  pub from : least ≤ number
+  pub shows : ShowsCache sizes rows number image

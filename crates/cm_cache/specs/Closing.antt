@@ -1,6 +1,6 @@
 -- What a cache that ran leaves: what was handed over, how much of it is durable, and what the
 -- passes counted.
-use Rattle.std.specs.Prelude.{◌≡◌, ℕ, ◌+◌, ◌≤◌, true, List, length, take}
+use Rattle.std.specs.Prelude.{◌≡◌, ℕ, ◌+◌, ◌-◌, ◌≤◌, true, List, length, take}
 use Rattle.std.specs.List.{All, sum_by}
 use Rattle.cm_disk.specs.Disk.{Unsynced}
 use Rattle.cm_group.specs.Groups.{Carried}
@@ -10,6 +10,8 @@ use Rattle.cm_commit.specs.States.{ShowsCache}
 use Rattle.cm_handover.specs.Ahead.{AllFollow}
 use Rattle.cm_cache.specs.declared.board_view.Seen.{Seen}
 use Rattle.cm_cache.specs.declared.channel.Base.{Base}
+use Rattle.cm_cache.specs.declared.channel.Message.{Message}
+use Rattle.cm_cache.specs.Channel.{entries_of}
 use Rattle.cm_cache.specs.Shared.{PassState}
 
 -- ---- counting
@@ -42,6 +44,12 @@ pub record ShowsBeginning (base : Base) (all : List Carried) (least : ℕ)
   pub to : stored ≤ length all
   pub shows : ShowsCache base.sizes (rows_after_group base.rows (take stored all))
       (base.number + stored) image
+
+-- The image holds what was opened with a beginning of what was received, with all commands that the
+-- Board says are durable.
+abbrev pub ShowsPosted : Base → List Message → Seen → List ℕ → Type 0
+ShowsPosted base received posted image =
+    ShowsBeginning base (entries_of received) (posted.receipt.number - base.number) image
 
 -- `handed` commands were handed over, each of which may follow those before it. Whatever a crash
 -- leaves holds a beginning of them, with at least as many as are committed.

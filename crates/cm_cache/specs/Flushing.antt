@@ -1,6 +1,6 @@
 -- How much of what was received is durable, and what waits to be stored.
 use Rattle.std.specs.Prelude.{◌≡◌, ℕ, ◌+◌, ◌<◌, ◌≤◌, Bool, true, false, List, [], ◌++◌, length}
-use Rattle.std.specs.Prelude.{Option, Some, None}
+use Rattle.std.specs.Prelude.{Option, Some, None, Result, Ok, Err}
 use Rattle.cm_group.specs.Groups.{Carried, Handed}
 use Rattle.cm_commit.specs.Offers.{rows_after_group}
 use Rattle.cm_commit.specs.States.{Work, Storing, Trimming, CommitterState}
@@ -101,3 +101,8 @@ pub record IsEnded {D : Type 0} (base : Base) (failed : ℕ) (failures : D → �
   pub ended : e.over ≡ true → is_open e.received ≡ false
   pub later : failed ≤ failures e.committer.disk
   pub cause : e.committer.broken ≡ true → failed < failures e.committer.disk
+
+-- the disk once a group was stored, or the device failed
+abbrev pub disk_after : {D : Type 0} → Result (FlushingState D) (EndedState D) → D
+disk_after (Ok f) = f.committer.disk
+disk_after (Err e) = e.committer.disk

@@ -1,5 +1,6 @@
 -- What is accepted is sent at once: how the accepted cache matches what was sent.
-use Rattle.std.specs.Prelude.{◌≡◌, ℕ, ◌+◌, ◌≤◌, true, List, [], ◌∷◌, ◌++◌, length, Some, Ok, refl}
+use Rattle.std.specs.Prelude.{◌≡◌, ℕ, ◌+◌, ◌||◌, nat_le, if◌then◌else◌, true, List, [], ◌∷◌, ◌++◌}
+use Rattle.std.specs.Prelude.{length, Some, Ok, refl}
 use Rattle.std.specs.Coded.{Coded, code_by, coded×, codes}
 use Rattle.cm_layout.specs.declared.row.Row.{Row}
 use Rattle.cm_group.specs.Groups.{Carried, Handed, IsGroup}
@@ -7,7 +8,7 @@ use Rattle.cm_state.specs.Step.{Change}
 use Rattle.cm_state.specs.Entries.{change_of}
 use Rattle.cm_commit.specs.Offers.{filled, rows_after_group}
 use Rattle.cm_front.specs.Front.{FrontState, IsFront, front_code}
-use Rattle.cm_front.specs.Accepting.{FrontAnswers, HandsOut}
+use Rattle.cm_front.specs.Accepting.{FrontAnswers, HandsOut, with_learnt}
 use Rattle.cm_handover.specs.Ahead.{IsAhead}
 use Rattle.cm_cache.specs.declared.board_view.Seen.{Seen}
 use Rattle.cm_cache.specs.declared.channel.Base.{Base}
@@ -66,11 +67,14 @@ pub record SameMarks (s new : FrontState) : Type 0 where
   pub broken : new.broken ≡ s.broken
   pub closed : new.closed ≡ s.closed
 
--- What was seen on the Board is known from then on; a receipt of a number that wasn't handed out is
--- ignored.
-pub record Notices (s : FrontState) (seen : Seen) (new : FrontState) : Type 0 where
-  pub broken : seen.broken ≡ true → new.broken ≡ true
-  pub learnt : seen.receipt.number ≤ s.sealed → seen.receipt.number ≤ new.learnt
+-- what a receipt changes: nothing if its number wasn't handed out
+abbrev pub with_receipt : FrontState → ℕ → FrontState
+with_receipt s number = if nat_le number s.sealed then with_learnt s number else s
+
+-- what the cache learns from what was seen on the Board: a failure, and what is durable
+abbrev pub with_seen : FrontState → Seen → FrontState
+with_seen s seen =
+    with_receipt (record s { broken = seen.broken || s.broken }) seen.receipt.number
 
 -- A change is accepted with this number and handed out by itself.
 pub record TakesOut (s : FrontState) (change : Change (List ℕ)) (n : ℕ) (group : Handed)

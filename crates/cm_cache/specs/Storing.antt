@@ -1,9 +1,10 @@
 -- A group is stored by its device calls, one after another.
-use Rattle.std.specs.Prelude.{◌≡◌, ℕ, ◌+◌, Bool, true, false, length, Some, None}
+use Rattle.std.specs.Prelude.{◌≡◌, ℕ, ◌+◌, true, false, List, length, Some, None}
 use Rattle.cm_group.specs.Groups.{Handed}
+use Rattle.cm_guards.specs.Gates.{OneOf}
 use Rattle.cm_guards.specs.Stages.{calls_left}
 use Rattle.cm_commit.specs.Offers.{rows_after_group}
-use Rattle.cm_commit.specs.States.{Storing, CommitterState}
+use Rattle.cm_commit.specs.States.{Storing, CommitterState, ShowsCommitted, ShowsWith}
 
 -- what is committed is the same
 pub record SameCommitted {D : Type 0} (old new : CommitterState D) : Type 0 where
@@ -36,3 +37,8 @@ pub record IsLeftBroken {D : Type 0} (old : CommitterState D) (group : Handed)
   pub same : SameCommitted old new
   pub broken : new.broken ≡ true
   pub group_is : new.underway ≡ Some (Storing group)
+
+-- the image shows what is committed, without this group or with all of it
+abbrev pub ShowsEither : {D : Type 0} → CommitterState D → Handed → List ℕ → Type 0
+ShowsEither s group image =
+    OneOf (ShowsCommitted s) (ShowsWith s (Some (Storing group))) image

@@ -1,7 +1,8 @@
 //! The Board, on which the flusher writes how far commands are durable.
 
 ghost use Rattle.std.specs.Prelude.{◌≡◌, ◌≤◌, ◌⊎◌, [], true, false, IfOk};
-ghost use Rattle.cm_cache.specs.Board.{poster as poster_view};
+ghost use Rattle.cm_guards.specs.Guards.{EachImage};
+ghost use Rattle.cm_cache.specs.Board.{poster as poster_view, ShowsFrom};
 
 use crate::board_rule::{
     BoardRule, Compares, Enters, Hears, PostsBroken, PostsNumber, SeesBroken, SeesNumber,
@@ -9,6 +10,8 @@ use crate::board_rule::{
 use crate::board_view::{BoardView, Seen};
 use crate::naming::Naming;
 use atomic_table::{Seat, Table};
+use cm_commit::Committer;
+use cm_disk::Disk;
 use cm_group::Receipt;
 use std::alloc::{AllocError, Global};
 use std::marker::{Model, PhantomData};
@@ -92,7 +95,8 @@ impl<K: Naming> Board<K> {
 
     /// Wakes all readers that wait.
     fn wake<R: Wait>(&self, rt: &R) {
-        let _guard = self.waiting.lock(rt);
+        // Without the lock, or each reader would wake only to wait for it.
+        drop(self.waiting.lock(rt));
         self.posted.notify_all();
     }
 }
@@ -118,12 +122,20 @@ impl<K: Naming> Model for Poster<K> {
 }
 
 impl<K: Naming> Poster<K> {
-    /// Writes that all commands up to the receipt's number are durable, and wakes the readers.
-    pub fn post<R: Wait>(&mut self, rt: &R, board: &Board<K>, receipt: Receipt)
-        requires { self.old.receipt.number ≤ receipt.number }
-        ensures { self.new ≡ record { receipt = receipt; broken = self.old.broken } }
+    /// Writes that all commands up to the committer's number are durable, and wakes the readers.
+    /// Whatever a crash leaves of the committer's disk from then on has them.
+    pub fn post<R: Wait, D: Disk>(&mut self, rt: &R, board: &Board<K>, committer: &Committer<D>)
+        requires { self.old.receipt.number ≤ committer.now.number }
+        ensures says { self.new ≡ record {
+          receipt = record { number = committer.now.number };
+          broken = self.old.broken;
+        } }
+        ensures stored { EachImage (D.view.contents committer.now.disk)
+            (D.view.unsynced committer.now.disk)
+            (ShowsFrom committer.now.sizes self.new.receipt.number) }
     {
-        self.write_number(board, receipt.number);
+        committer.images();
+        self.write_number(board, committer.number());
         board.wake(rt);
     }
 

@@ -239,6 +239,7 @@ impl<K: Naming> Cache<K> {
         ensures order { result.committed ≤ result.handed }
         ensures shares { result.of_passes ≡ sum_by (λ (p : PassState). p.share) passes.items }
         ensures passes { result.missing ≡ 0 → result.of_passes ≡ result.handed }
+        ensures counted { result.of_passes ≤ result.handed }
         ensures receipts { All (λ (p : PassState).
             p.seen.receipt.number ≤ K.base.number + result.committed) passes.items }
         ensures images { LeavesBeginning K.base result.handed result.committed

@@ -1,10 +1,13 @@
 //! Stores what is received, group by group.
 
-ghost use Rattle.std.specs.Prelude.{◌≡◌, ◌-◌, ◌≤◌, [], true, false, None, IfErr, length};
+ghost use Rattle.std.specs.Prelude.{◌≡◌, ◌-◌, ◌≤◌, [], true, false, None, IfErr};
+ghost use Rattle.cm_guards.specs.Guards.{EachImage};
+ghost use Rattle.cm_guards.specs.Calls.{LeavesOnly};
 ghost use Rattle.cm_cache.specs.Channel.{entries_of};
 ghost use Rattle.cm_cache.specs.Handing.{number_sent};
-ghost use Rattle.cm_cache.specs.Flushing.{HasCommitted, IsEnded};
-ghost use Rattle.cm_cache.specs.Closing.{LeavesBeginning};
+ghost use Rattle.cm_cache.specs.Flushing.{HasCommitted, IsEnded, disk_after};
+ghost use Rattle.cm_cache.specs.Closing.{ShowsBeginning, ShowsPosted};
+ghost use Rattle.cm_handover.specs.Ahead.{AllFollow};
 
 use crate::board::{Board, Poster};
 use crate::channel::Message;
@@ -17,6 +20,10 @@ use cm_group::Group;
 use cm_handover::groups_may_follow;
 use std::marker::Model;
 use std::sync::Wait;
+use std::thread;
+
+/// How often the flusher lets others run before it joins what they sent.
+const YIELDS: u32 = 3;
 
 /// Stores what it receives, in order, and writes on the Board how far it has come.
 ///
@@ -31,6 +38,8 @@ pub struct Flushing<K: Naming, D: Disk> {
     next: Option<Group>,
     behind: Option<Group>,
     over: bool,
+    // whether the group that was stored last had several commands, whose threads may send more
+    several: bool,
 }
 
 impl<K: Naming, D: Disk> Model for Flushing<K, D> {
@@ -86,6 +95,7 @@ impl<K: Naming, D: Disk> Flushing<K, D> {
             next: None,
             behind: None,
             over: false,
+            several: false,
         }
     }
 
@@ -110,10 +120,14 @@ impl<K: Naming, D: Disk> Flushing<K, D> {
     }
 
     /// Joins what was received since to the group that is stored next, as far as it continues and
-    /// has room. Waits for nobody.
+    /// has room. Waits for nobody, but lets those send first whose commands were just stored, if
+    /// there are several: then one group takes more of them.
     fn join<R: Wait>(&mut self, rt: &R)
         ensures { self.new.committer ≡ self.old.committer }
     {
+        if self.several {
+            let_others_run();
+        }
         for _ in rt.forever() {
             if !self.join_one(rt) {
                 return;
@@ -158,10 +172,17 @@ impl<K: Naming, D: Disk> Flushing<K, D> {
 
     /// Stores the next group, and writes its receipt on the Board. If the device fails, that is
     /// written, and nothing more is stored.
-    fn store<R: Wait>(self, rt: &R, board: &Board<K>) -> Result<Flushing<K, D>, Ended<K, D>>
-        ensures { IfErr result (λ e. e.committer.broken ≡ true) }
+    ///
+    /// At each moment of the call a crash leaves what was opened with a beginning of what was
+    /// received, with all commands that the Board says are durable. [`Flushing::images`] says so of
+    /// the moments between two calls.
+    pub fn store<R: Wait>(self, rt: &R, board: &Board<K>) -> Result<Flushing<K, D>, Ended<K, D>>
+        ensures broken { IfErr result (λ e. e.committer.broken ≡ true) }
+        ensures any_moment { LeavesOnly D.view self.committer.disk (disk_after result)
+            (ShowsPosted K.base self.received self.posted) }
     {
         groups_may_follow();
+        self.images();
         let Flushing {
             mut committer,
             incoming,
@@ -169,6 +190,7 @@ impl<K: Naming, D: Disk> Flushing<K, D> {
             next,
             behind,
             over,
+            several,
         } = self;
         let Some(group) = next else {
             return Ok(Flushing {
@@ -178,11 +200,13 @@ impl<K: Naming, D: Disk> Flushing<K, D> {
                 next: None,
                 behind,
                 over,
+                several,
             });
         };
+        let several = group.count() > 1;
         match store_group(&mut committer, group) {
-            Some(receipt) => {
-                poster.post(rt, board, receipt);
+            Some(_) => {
+                poster.post(rt, board, &committer);
                 Ok(Flushing {
                     committer,
                     incoming,
@@ -190,6 +214,7 @@ impl<K: Naming, D: Disk> Flushing<K, D> {
                     next: None,
                     behind,
                     over,
+                    several,
                 })
             }
             None => {
@@ -203,6 +228,16 @@ impl<K: Naming, D: Disk> Flushing<K, D> {
                 })
             }
         }
+    }
+
+    /// Does nothing: its clause says what a crash leaves now. That is what was opened with a
+    /// beginning of what was received, with all commands that the Board says are durable.
+    pub fn images(&self)
+        ensures { EachImage (D.view.contents self.now.committer.disk)
+            (D.view.unsynced self.now.committer.disk)
+            (ShowsPosted K.base self.now.received self.now.posted) }
+    {
+        self.committer.images();
     }
 
     /// Whether the End came and all that was received is durable.
@@ -226,6 +261,7 @@ impl<K: Naming, D: Disk> Flushing<K, D> {
             next,
             behind,
             over,
+            ..
         } = self;
         drop(next);
         drop(behind);
@@ -258,6 +294,12 @@ impl<K: Naming, D: Disk> Flushing<K, D> {
             }
         }
         unreachable!()
+    }
+}
+
+fn let_others_run() {
+    for _ in 0..YIELDS {
+        thread::yield_now();
     }
 }
 
@@ -294,13 +336,15 @@ impl<K: Naming, D: Disk> Ended<K, D> {
     }
 
     /// Returns the disk, once both ends of the channel are in one thread: with the number of the
-    /// last command that is committed, and the poster of the Board.
+    /// last command that is committed, and the poster of the Board. Whatever a crash leaves of the
+    /// disk holds a beginning of what was sent.
     pub(crate) fn leave(self, outgoing: Outgoing<K>) -> (u64, Poster<K>, D)
         requires over { self.over ≡ true }
         ensures least { K.base.number ≤ result.0 }
         ensures most { result.0 ≤ number_sent K.base outgoing }
-        ensures images { LeavesBeginning K.base (length (entries_of outgoing))
-            (result.0 - K.base.number) (D.view.contents result.2) (D.view.unsynced result.2) }
+        ensures follow { AllFollow K.base.sizes K.base.rows K.base.number (entries_of outgoing) }
+        ensures images { EachImage (D.view.contents result.2) (D.view.unsynced result.2)
+            (ShowsBeginning K.base (entries_of outgoing) (result.0 - K.base.number)) }
         ensures says { result.1.receipt.number ≡ result.0 }
         ensures whole { D.view.failures result.2 ≡ K.failed
             → (result.0 ≡ number_sent K.base outgoing) × (result.1.broken ≡ false) }
@@ -315,6 +359,15 @@ impl<K: Naming, D: Disk> Ended<K, D> {
         committer.images();
         let number = committer.number();
         (number, poster, committer.into_disk())
+    }
+
+    /// Does nothing: its clause says what a crash leaves now, as [`Flushing::images`] does.
+    pub fn images(&self)
+        ensures { EachImage (D.view.contents self.now.committer.disk)
+            (D.view.unsynced self.now.committer.disk)
+            (ShowsPosted K.base self.now.received self.now.posted) }
+    {
+        self.committer.images();
     }
 
     /// Does nothing: its clauses say what was received and stored.

@@ -1,12 +1,13 @@
 //! The accepted cache, which sends each command that it accepts to the flusher at once.
 
-ghost use Rattle.std.specs.Prelude.{◌≡◌, ◌<◌, ◌≤◌, [], ◌∷◌, ◌++◌, true, false, IfOk, IfErr, OnErr};
+ghost use Rattle.std.specs.Prelude.{◌≡◌, ◌||◌, [], ◌∷◌, ◌++◌, true, IfOk, IfErr, OnErr};
 ghost use Rattle.cm_commands.specs.Commands.{change_asked};
 ghost use Rattle.cm_front.specs.Front.{IsFront};
-ghost use Rattle.cm_front.specs.Accepting.{with_learnt, IsReason};
+ghost use Rattle.cm_front.specs.Accepting.{IsReason};
 ghost use Rattle.cm_cache.specs.declared.channel.Message.TheVariants.{End};
 ghost use Rattle.cm_cache.specs.Handing.{rows_sent, number_sent, IsFresh, TakesOut, HandsOver};
-ghost use Rattle.cm_cache.specs.Handing.{SameMarks, Notices};
+ghost use Rattle.cm_cache.specs.Handing.{IsTied};
+ghost use Rattle.cm_cache.specs.Handing.{SameMarks, with_receipt, with_seen};
 
 use crate::board_view::Seen;
 use crate::channel::Message;
@@ -59,6 +60,13 @@ impl<K: Naming> Handing<K> {
         &self.front
     }
 
+    /// Does nothing: its clause says how the accepted cache matches what was sent.
+    pub fn state(&self)
+        ensures { IsTied K.base self.now }
+    {
+        let _front = &self.front; // reading a field brings the invariant
+    }
+
     /// Accepts a command and sends it, or does neither. Waits while the channel is full.
     pub fn hand_over<R: Wait>(&mut self, rt: &R, command: Command<'_>) -> Result<u64, Refusal>
         ensures ok { IfOk result
@@ -80,13 +88,10 @@ impl<K: Naming> Handing<K> {
     /// Learns that all commands up to the receipt's number are durable, unless that number wasn't
     /// sent yet: then nothing is changed.
     pub fn learn(&mut self, receipt: Receipt)
-        ensures known { receipt.number ≤ self.old.front.sealed → self.new ≡ record {
-          front = with_learnt self.old.front receipt.number;
+        ensures { self.new ≡ record {
+          front = with_receipt self.old.front receipt.number;
           sent = self.old.sent;
         } }
-        ensures unknown { self.old.front.sealed < receipt.number → self.new ≡ self.old }
-        ensures sent { self.new.sent ≡ self.old.sent }
-        ensures broken { self.new.front.broken ≡ self.old.front.broken }
     {
         handed_groups_are_next();
         ahead_stays_ahead();
@@ -106,21 +111,23 @@ impl<K: Naming> Handing<K> {
         self.front.invariant_holds();
     }
 
-    /// Takes note of what was seen on the Board: a failure, and what is durable.
+    /// Takes note of what was seen on the Board: a failure, and what is durable. Changes nothing
+    /// else.
     pub fn notice(&mut self, seen: Seen)
-        ensures sent { self.new.sent ≡ self.old.sent }
-        ensures noticed { Notices self.old.front seen self.new.front }
+        ensures { self.new ≡ record {
+          front = with_seen self.old.front seen;
+          sent = self.old.sent;
+        } }
     {
         self.notice_failure(seen.broken);
         self.learn(seen.receipt);
     }
 
     fn notice_failure(&mut self, broken: bool)
-        ensures failed { broken ≡ true → self.new ≡ record {
-          front = record self.old.front { broken = true };
+        ensures { self.new ≡ record {
+          front = record self.old.front { broken = broken || self.old.front.broken };
           sent = self.old.sent;
         } }
-        ensures whole { broken ≡ false → self.new ≡ self.old }
     {
         if broken {
             self.fail();

@@ -36,4 +36,5 @@ pub use naming::Naming;
 pub use new_cache::NewCache;
 pub use opening::opened_may_start;
 pub use shared::{MOST_PASSES, Pass, Shared};
+pub use storing::store_group;
 pub use tally::Tally;

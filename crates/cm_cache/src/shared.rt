@@ -10,7 +10,8 @@ ghost use Rattle.cm_commands.specs.Commands.{change_asked};
 ghost use Rattle.cm_front.specs.Accepting.{IsReason};
 ghost use Rattle.cm_commands.specs.declared.refusal.Refusal.TheVariants as refusal;
 ghost use Rattle.cm_cache.specs.Channel.{entries_of};
-ghost use Rattle.cm_cache.specs.Handing.{rows_sent, number_sent, HandsOver, Notices};
+ghost use Rattle.cm_cache.specs.Handing.{rows_sent, number_sent, HandsOver, SameMarks, with_seen};
+ghost use Rattle.cm_cache.specs.Handing.{IsTied};
 ghost use Rattle.cm_cache.specs.Shared.{counted, most_passes};
 
 use crate::board::{Board, Reader};
@@ -187,6 +188,15 @@ impl<K: Naming> Shared<K> {
         self.handing.front()
     }
 
+    /// Does nothing: its clause says how the accepted cache matches what was sent. That is what the
+    /// cache has learnt to be durable, followed by the entries by which it is ahead of that: no
+    /// chunk has a free word that the rows use after any of these.
+    pub fn state(&self)
+        ensures { IsTied K.base (record { front = self.now.front; sent = self.now.sent }) }
+    {
+        self.handing.state();
+    }
+
     /// The record of the class of a name in the loader of a name, as accepted, whether or not it is
     /// durable.
     pub fn find(
@@ -239,8 +249,8 @@ impl<K: Naming> Shared<K> {
     }
 
     /// What a changing call does while it holds the lock: it learns what was seen on the Board,
-    /// accepts the command and sends it. A refused command is dropped, and only what was seen
-    /// stays. Waits while the channel is full.
+    /// accepts the command and sends it, and does nothing else. A refused command is dropped, and
+    /// only what was seen stays. Waits while the channel is full.
     ///
     /// The refusals are those of `Front::accept`.
     pub fn hold<R: Wait>(
@@ -254,9 +264,11 @@ impl<K: Naming> Shared<K> {
             (λ n. HandsOver K.base self.old.sent (change_asked command.entry) n self.new.sent) }
         ensures counted { IfOk result
             (λ n. pass.new ≡ counted pass.old (change_asked command.entry) n) }
-        ensures refused { OnErr result ((self.new.sent ≡ self.old.sent) × (pass.new ≡ pass.old)) }
+        ensures refused { OnErr result
+            ((self.new ≡ record self.old { front = with_seen self.old.front seen })
+            × (pass.new ≡ pass.old)) }
         ensures reason { IfErr result (IsReason self.new.front (change_asked command.entry)) }
-        ensures noticed { Notices self.old.front seen self.new.front }
+        ensures noticed { SameMarks (with_seen self.old.front seen) self.new.front }
         ensures passes { self.new.made ≡ self.old.made }
     {
         self.handing.notice(seen);

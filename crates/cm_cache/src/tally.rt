@@ -106,6 +106,7 @@ impl<K: Naming> Tally<K> {
         ensures handed { result.0 ≡ self.handed }
         ensures missing { result.1 ≡ self.missing }
         ensures of_passes { result.2 ≡ self.of_passes }
+        ensures most { self.of_passes ≤ self.handed }
         ensures all { self.missing ≡ 0 → self.of_passes ≡ self.handed }
     {
         self.book.audit(&mut self.all);

@@ -154,7 +154,7 @@ fn store_loader(front: &mut Front, committer: &mut Committer<SimDisk>) -> Option
 }
 
 /// A disk that holds only a loader.
-fn with_loader(alloc: Global) -> Result<SimDisk, Fail> {
+pub fn with_loader(alloc: Global) -> Result<SimDisk, Fail> {
     let (mut front, mut committer) = opened(alloc, formatted(alloc)?)?;
     let number = store_loader(&mut front, &mut committer);
     let disk = committer.into_disk();

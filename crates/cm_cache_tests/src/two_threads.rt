@@ -3,8 +3,11 @@ ghost use Rattle.std.specs.Prelude.{◌≡◌, ◌≤◌};
 ghost use Rattle.crossbeam_channel.specs.Ends.{sends_on};
 ghost use Rattle.cm_cache.specs.Channel.{channel_of};
 
+use crate::fused::with_loader;
+use crate::running::opened;
 use cm_cache::{Board, Incoming, Message, Naming, NewBoard, NewChannel, Poster};
-use cm_group::Receipt;
+use cm_commit::Committer;
+use cm_disk::SimDisk;
 use std::alloc::{AllocError, Global};
 use std::marker::Brand;
 use std::sync::{Arc, Wait};
@@ -12,16 +15,15 @@ use std::test::*;
 use std::thread;
 use std::thread::Threads;
 
-const LAST: u64 = 7;
-
-// Receives until the End comes, and then says so on the Board.
+// Receives until the End comes, and then posts what is committed.
 fn receive_all<K: Naming, R: Wait>(
     rt: &R,
     mut incoming: Incoming<K>,
     mut poster: Poster<K>,
     board: &Board<K>,
+    committer: &Committer<SimDisk>,
 ) -> (Incoming<K>, Poster<K>)
-    requires { poster.receipt.number ≤ LAST }
+    requires { poster.receipt.number ≤ committer.now.number }
 {
     for _ in rt.forever() {
         match incoming.receive(rt) {
@@ -29,7 +31,7 @@ fn receive_all<K: Naming, R: Wait>(
             Message::End => break,
         }
     }
-    poster.post(rt, board, Receipt { number: LAST });
+    poster.post(rt, board, committer);
     (incoming, poster)
 }
 
@@ -39,14 +41,16 @@ fn send_end<K, R>(
     alloc: Global,
     channel: NewChannel,
     board: NewBoard,
+    committer: Committer<SimDisk>,
 ) -> Result<u64, AllocError>
 where
     K: Naming + Send + Sync + 'static,
     R: Threads + Wait + Copy + Send + 'static,
     requires channel { channel_of (sends_on channel.sender) ≡ K.channel }
-    requires number { board.number ≤ LAST }
+    requires number { board.number ≤ committer.number }
     requires board { board.table.shared.table_id ≡ K.board }
 {
+    let last = committer.number();
     let (mut outgoing, incoming) = channel.named::<K>();
     let (board, poster) = board.named::<K>();
     let board = Arc::new(alloc, board)?;
@@ -55,11 +59,11 @@ where
     let child = thread::spawn(
         &rt,
         move || -> (Incoming<K>, Poster<K>)
-            requires { poster.receipt.number ≤ LAST }
-        { receive_all(&rt, incoming, poster, &theirs) },
+            requires { poster.receipt.number ≤ committer.number }
+        { receive_all(&rt, incoming, poster, &theirs, &committer) },
     )?;
     outgoing.send(&rt, Message::End);
-    let seen = reader.wait_for(&rt, &board, LAST);
+    let seen = reader.wait_for(&rt, &board, last);
     let (incoming, mut poster) = child.join(&rt);
     outgoing.settle(incoming);
     poster.compare(&board, reader);
@@ -68,9 +72,11 @@ where
 
 #[test]
 fn an_end_is_received_and_answered(rt: HostRuntime) -> Result<(), Fail> {
-    let channel = NewChannel::new(rt.alloc())?;
-    let board = NewBoard::new(rt.alloc(), 3)?;
-    let number = send_end::<Brand, HostRuntime>(rt, rt.alloc(), channel, board)?;
-    assert_eq!(rt; number, LAST);
+    let alloc = rt.alloc();
+    let (_front, committer) = opened(alloc, with_loader(alloc)?)?;
+    let channel = NewChannel::new(alloc)?;
+    let board = NewBoard::new(alloc, 0)?;
+    let number = send_end::<Brand, HostRuntime>(rt, alloc, channel, board, committer)?;
+    assert_eq!(rt; number, 1);
     Ok(())
 }

@@ -63,7 +63,7 @@ pub fn define_all<K: Naming, R: Wait>(
     scene: &Scene<'_>,
     turn: Turn,
 ) -> u64 {
-    let loader = scene.loader(turn.thread as usize);
+    let loader = scene.loader(turn.thread as usize).as_bytes();
     let mut stored = u64::from(cache.add_loader(rt, pass, loader).is_ok());
     for (at, sample) in scene.samples.iter().enumerate() {
         if turn_of(at, turn.threads) == turn.thread as usize {
@@ -91,7 +91,7 @@ fn look_up<K: Naming, R: Wait>(
     let at = (rng.next_u32() as usize)
         .checked_rem(scene.samples.len())
         .unwrap_or(0);
-    let loader = scene.loader(turn_of(at, threads));
+    let loader = scene.loader(turn_of(at, threads)).as_bytes();
     match scene.samples.get(at) {
         Some(sample) => matches!(cache.find(rt, loader, &sample.name), Ok(Some(_))),
         None => false,

@@ -1,5 +1,6 @@
 //! Random changes and lookups, for a while.
 
+use crate::threads::report::print_live;
 use crate::threads::scene::{Sample, Scene};
 use cm_cache::{Cache, Naming, Pass};
 use cm_commands::{Refusal, prepare};
@@ -16,12 +17,14 @@ pub const LOADERS: u32 = 2;
 /// How many calls a thread makes at most.
 const MOST_CALLS: u32 = 10_000_000;
 
-/// Until when a thread continues, and which thread it is.
+/// Until when a thread continues, which thread it is, and whether each call is printed before it is
+/// made, and again as it returns.
 #[derive(Clone, Copy, Debug)]
 pub struct Mix {
     pub thread: u32,
     pub start: Instant,
     pub limit: Duration,
+    pub is_live: bool,
 }
 
 /// What a call requests, of which loader and which class.
@@ -114,16 +117,27 @@ fn call<K: Naming, R: Wait>(
     asked: Asked,
 ) -> Answer {
     match asked {
-        Asked::Loader(loader) => answer_of(cache.add_loader(rt, pass, scene.loader(loader))),
-        Asked::Unload(loader) => answer_of(cache.unload(rt, pass, scene.loader(loader))),
+        Asked::Loader(loader) => answer_of(cache.add_loader(
+            rt,
+            pass,
+            scene.loader(loader).as_bytes(),
+        )),
+        Asked::Unload(loader) => answer_of(cache.unload(rt, pass, scene.loader(loader).as_bytes())),
         Asked::Define(loader, class) => match scene.samples.get(class) {
             Some(sample) => {
-                answer_of(define(rt, alloc, cache, pass, scene.loader(loader), sample))
+                answer_of(define(
+                    rt,
+                    alloc,
+                    cache,
+                    pass,
+                    scene.loader(loader).as_bytes(),
+                    sample,
+                ))
             }
             None => Answer::Nothing,
         },
         Asked::Find(loader, class) => match scene.samples.get(class) {
-            Some(sample) => find(rt, cache, scene.loader(loader), sample),
+            Some(sample) => find(rt, cache, scene.loader(loader).as_bytes(), sample),
             None => Answer::Nothing,
         },
     }
@@ -137,9 +151,21 @@ fn is_over(rt: &impl Clock, mix: Mix) -> bool {
     }
 }
 
-/// Makes calls until the time is over. A call that isn't kept, because an allocation failed, is the
-/// last.
-pub fn mix_calls<K: Naming, R: Clock + Wait>(
+/// Prints a call, if calls are printed as they are made. `false` if that fails.
+fn is_printed(
+    rt: &impl Print,
+    alloc: Global,
+    scene: &Scene<'_>,
+    mix: Mix,
+    asked: Asked,
+    answer: Option<Answer>,
+) -> bool {
+    !mix.is_live || print_live(rt, alloc, scene, mix.thread, asked, answer).is_ok()
+}
+
+/// Makes calls until the time is over. A call that isn't kept, because an allocation failed, or
+/// can't be printed, is the last.
+pub fn mix_calls<K: Naming, R: Clock + Print + Wait>(
     rt: &R,
     alloc: Global,
     cache: &Cache<K>,
@@ -154,7 +180,13 @@ pub fn mix_calls<K: Naming, R: Clock + Wait>(
             return steps;
         }
         let asked = next_asked(&mut rng, mix.thread, scene.samples.len());
+        if !is_printed(rt, alloc, scene, mix, asked, None) {
+            return steps;
+        }
         let answer = call(rt, alloc, cache, pass, scene, asked);
+        if !is_printed(rt, alloc, scene, mix, asked, Some(answer)) {
+            return steps;
+        }
         if steps.push(Step { asked, answer }).is_err() {
             return steps;
         }

@@ -10,7 +10,7 @@ use crate::command::{Soaking, Threading};
 use crate::file::{CountedDisk, make_file, open_file};
 use crate::threads::defining::Turn;
 use crate::threads::mixing::{LOADERS, Mix};
-use crate::threads::report::{print_steps, print_sums};
+use crate::threads::report::{print_steps, print_sums, print_totals};
 use crate::threads::running::{Duty, Ran, run_duties};
 use crate::threads::scene::Scene;
 use anyhow::Result;
@@ -33,6 +33,7 @@ fn mixes(rt: &(impl Clock + AllocGlobal), soaking: &Soaking) -> Result<Vec<Duty>
             thread,
             start,
             limit,
+            is_live: soaking.is_live,
         }))?;
     }
     Ok(duties)
@@ -41,7 +42,7 @@ fn mixes(rt: &(impl Clock + AllocGlobal), soaking: &Soaking) -> Result<Vec<Duty>
 /// Has threads make random calls on the cache in a file.
 fn run_mixes<R>(rt: &R, soaking: &Soaking, scene: &Scene<'_>) -> Result<Ran<FileDisk>>
 where
-    R: Clock + Files<File = File> + AllocGlobal,
+    R: Clock + Files<File = File> + Print + AllocGlobal,
     R: Threads + Wait + Copy + Send + Sync + 'static,
 {
     let disk = open_file(rt, &soaking.path)?;
@@ -50,7 +51,7 @@ where
 }
 
 /// Has threads change the cache in a file and look up classes in it for a while, and prints each
-/// call with its result.
+/// call with its result: as it is made, or each thread's at the end.
 pub fn soak<R>(rt: &R, soaking: &Soaking) -> Result<()>
 where
     R: Clock + Files<File = File> + Input + Print + AllocGlobal,
@@ -60,6 +61,9 @@ where
     let loaders = soaking.threads.saturating_mul(LOADERS);
     let scene = Scene::new(rt.alloc(), &bytes, loaders, 0)?;
     let ran = run_mixes(rt, soaking, &scene)?;
+    if soaking.is_live {
+        return print_totals(rt, ran.totals);
+    }
     print_steps(rt, &scene, &ran.works, ran.totals)
 }
 
@@ -90,7 +94,7 @@ fn run_turns<R>(
     scene: &Scene<'_>,
 ) -> Result<Ran<CountedDisk<FileDisk>>>
 where
-    R: Clock + Files<File = File> + AllocGlobal,
+    R: Clock + Files<File = File> + Print + AllocGlobal,
     R: Threads + Wait + Copy + Send + Sync + 'static,
 {
     make_file(rt, &threading.path, threading.geometry)?;

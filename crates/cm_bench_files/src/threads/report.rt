@@ -6,8 +6,10 @@ use crate::threads::mixing::{Answer, Asked, Step};
 use crate::threads::running::{Totals, Work};
 use crate::threads::scene::Scene;
 use anyhow::Result;
+use std::alloc::{AllocError, Global};
 
-fn print_totals(rt: &impl Print, totals: Totals) -> Result<()> {
+/// Prints what was counted.
+pub fn print_totals(rt: &impl Print, totals: Totals) -> Result<()> {
     let Totals {
         handed,
         committed,
@@ -18,48 +20,62 @@ fn print_totals(rt: &impl Print, totals: Totals) -> Result<()> {
     Ok(())
 }
 
-/// Prints the loader of a name in the list.
-fn print_loader(rt: &impl Print, scene: &Scene<'_>, at: usize) -> Result<()> {
-    if let Some(name) = scene.loaders.get(at) {
-        print!(rt; " {name}")?;
-    }
-    Ok(())
-}
-
-/// Prints what a call requested: its verb, its loader, and the number of its class, from 0.
-fn print_asked(rt: &impl Print, scene: &Scene<'_>, asked: Asked) -> Result<()> {
+/// What a call requests: its verb, its loader, and the number of its class, from 0.
+fn asked_text(alloc: Global, scene: &Scene<'_>, asked: Asked) -> Result<String, AllocError> {
     let (verb, loader, class) = match asked {
         Asked::Loader(loader) => ("loader", loader, None),
         Asked::Unload(loader) => ("unload", loader, None),
         Asked::Define(loader, class) => ("define", loader, Some(class)),
         Asked::Find(loader, class) => ("find", loader, Some(class)),
     };
-    print!(rt; "{verb}")?;
-    print_loader(rt, scene, loader)?;
-    if let Some(class) = class {
-        print!(rt; " {class}")?;
+    let loader = scene.loader(loader);
+    match class {
+        Some(class) => format!(in alloc; "{verb} {loader} {class}"),
+        None => format!(in alloc; "{verb} {loader}"),
     }
-    Ok(())
 }
 
-fn print_answer(rt: &impl Print, answer: Answer) -> Result<()> {
+fn answer_text(alloc: Global, answer: Answer) -> Result<String, AllocError> {
     match answer {
-        Answer::Number(number) => println!(rt; ": ok {number}")?,
-        Answer::Refused(number) => println!(rt; ": refused {number}")?,
-        Answer::Words(words) => println!(rt; ": words {words}")?,
-        Answer::Nothing => println!(rt; ": none")?,
+        Answer::Number(number) => format!(in alloc; "ok {number}"),
+        Answer::Refused(number) => format!(in alloc; "refused {number}"),
+        Answer::Words(words) => format!(in alloc; "words {words}"),
+        Answer::Nothing => String::from_str(alloc, "none"),
     }
+}
+
+/// Prints a call of a thread, with its result if it has returned. The line is written at once, so
+/// that lines of several threads don't mix.
+pub fn print_live(
+    rt: &impl Print,
+    alloc: Global,
+    scene: &Scene<'_>,
+    thread: u32,
+    asked: Asked,
+    answer: Option<Answer>,
+) -> Result<()> {
+    let asked = asked_text(alloc, scene, asked)?;
+    let line = match answer {
+        Some(answer) => {
+            let answer = answer_text(alloc, answer)?;
+            format!(in alloc; "{thread} {asked}: {answer}\n")?
+        }
+        None => format!(in alloc; "{thread} {asked}\n")?,
+    };
+    print!(rt; "{line}")?;
     Ok(())
 }
 
-fn print_step(rt: &impl Print, scene: &Scene<'_>, step: Step) -> Result<()> {
-    print_asked(rt, scene, step.asked)?;
-    print_answer(rt, step.answer)
+fn print_step(rt: &impl Print, alloc: Global, scene: &Scene<'_>, step: Step) -> Result<()> {
+    let asked = asked_text(alloc, scene, step.asked)?;
+    let answer = answer_text(alloc, step.answer)?;
+    println!(rt; "{asked}: {answer}")?;
+    Ok(())
 }
 
 /// Prints each call of each thread with its result, in the thread's order, and what was counted.
 pub fn print_steps(
-    rt: &impl Print,
+    rt: &(impl Print + AllocGlobal),
     scene: &Scene<'_>,
     works: &[Work],
     totals: Totals,
@@ -68,7 +84,7 @@ pub fn print_steps(
         if let Work::Steps(steps) = work {
             println!(rt; "thread")?;
             for step in steps {
-                print_step(rt, scene, *step)?;
+                print_step(rt, rt.alloc(), scene, *step)?;
             }
         }
     }

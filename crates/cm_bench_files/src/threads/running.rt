@@ -78,7 +78,7 @@ pub struct Ran<D: Disk> {
     pub disk: D,
 }
 
-fn do_duty<K: Naming, R: Clock + Wait>(
+fn do_duty<K: Naming, R: Clock + Print + Wait>(
     rt: &R,
     alloc: Global,
     cache: &Cache<K>,
@@ -137,7 +137,7 @@ fn share_out<K, R>(
 ) -> Result<AllDone<K>>
 where
     K: Naming + Send + Sync + 'static,
-    R: Clock + Threads + Wait + Sync,
+    R: Clock + Print + Threads + Wait + Sync,
 {
     let workers = workers(rt, alloc, cache, duties)?;
     let start = Instant::now(rt)?;
@@ -162,7 +162,7 @@ fn run<K, R, D>(
 ) -> Result<Ran<D>>
 where
     K: Naming + Send + Sync + 'static,
-    R: Clock + Threads + Wait + Copy + Send + Sync + 'static,
+    R: Clock + Print + Threads + Wait + Copy + Send + Sync + 'static,
     D: Disk + Drop + Send + 'static,
     requires new { Belongs K.base K.channel K.board K.name K.parts new }
     requires opened { MayStart K.base K.failed D.view.failures front committer }
@@ -209,7 +209,7 @@ pub fn run_duties<R, D>(
     duties: &[Duty],
 ) -> Result<Ran<D>>
 where
-    R: Clock + Threads + Wait + Copy + Send + Sync + 'static,
+    R: Clock + Print + Threads + Wait + Copy + Send + Sync + 'static,
     D: Disk + Drop + Send + 'static,
 {
     let (front, committer) = match open(alloc, disk) {

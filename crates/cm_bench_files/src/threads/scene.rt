@@ -77,10 +77,10 @@ impl<'a> Scene<'a> {
     }
 
     /// The name of a loader; the empty name if there is none.
-    pub fn loader(&self, at: usize) -> &[u8] {
+    pub fn loader(&self, at: usize) -> &str {
         match self.loaders.get(at) {
-            Some(name) => name.as_bytes(),
-            None => &[],
+            Some(name) => name.as_str(),
+            None => "",
         }
     }
 }

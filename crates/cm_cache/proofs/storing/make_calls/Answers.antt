@@ -1,7 +1,7 @@
-use Rattle.std.proofs.Common.{◌≤◌, Ok, arith, subst}
+use Rattle.std.proofs.Common.{Ok, arith, subst}
 use Rattle.cm_commit.specs.Advances.{Advances}
 use Rattle.cm_cache.proofs.Stored.{works, finishes, fails, fails_by_device, not_idle}
-use Rattle.cm_cache.proofs.Stored.{no_trim}
+use Rattle.cm_cache.proofs.Stored.{no_trim, one_more_call}
 use Rattle.cm_cache.proofs.storing.make_calls.Goals as goal
 
 pub returns-in-Done-clause-stored : goal.returns-in-Done-clause-stored
@@ -22,6 +22,9 @@ loop-progress-preserved g c = (
   (let before = c.loop-progress.invariant.1 in
       let later = c.in-Ok.ensures.cause.later in
       omega (arith, before, later)),
+  (λ group u.
+      one_more_call g.D.Disk.view _ _ c.advance.new.self group (c.loop-progress.invariant.0 group u)
+      (c.loop-progress.invariant.2 group u) c.in-Ok.ensures.any_moment),
 )
 
 pub unreachable-requires : goal.unreachable-requires
@@ -49,3 +52,15 @@ returns-in-Err-clause-cause g c =
     let rises = fails_by_device _ _ _ c.in-Err.field-0 c.requires.0 _ _ c.in-Err.ensures.moved
     (c.loop-progress.invariant.0 c.requires.0 c.requires.1) c.in-Err.ensures.cause in
     omega (arith, before, rises)
+
+pub returns-in-Done-clause-any_moment : goal.returns-in-Done-clause-any_moment
+returns-in-Done-clause-any_moment g c =
+    λ group u.
+    one_more_call g.D.Disk.view _ _ c.advance.new.self group (c.loop-progress.invariant.0 group u)
+    (c.loop-progress.invariant.2 group u) c.in-Ok.ensures.any_moment
+
+pub returns-in-Err-clause-any_moment : goal.returns-in-Err-clause-any_moment
+returns-in-Err-clause-any_moment g c =
+    λ group u.
+    one_more_call g.D.Disk.view _ _ c.advance.new.self group (c.loop-progress.invariant.0 group u)
+    (c.loop-progress.invariant.2 group u) c.in-Err.ensures.any_moment

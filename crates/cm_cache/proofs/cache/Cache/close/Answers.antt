@@ -1,4 +1,7 @@
-use Rattle.std.proofs.Common.{arith}
+use Rattle.std.proofs.Common.{◌-◌, sym, subst, arith}
+use Rattle.cm_guards.specs.Guards.{EachImage}
+use Rattle.cm_cache.specs.Channel.{entries_of}
+use Rattle.cm_cache.specs.Closing.{ShowsBeginning}
 use Rattle.cm_cache.proofs.Counted.{within, none_marked}
 use Rattle.cm_cache.proofs.cache.Cache.close.Goals as goal
 
@@ -20,3 +23,22 @@ returns-clause-whole g c = λ same.
       omega (arith, sent, taken, handed, opened, number),
       none_marked _ _ c.take_all.ensures.marked all.1,
     )
+
+pub returns-clause-images : goal.returns-clause-images
+returns-clause-images g c =
+    let view = g.D.Disk.view in
+    let left = c.leave-number in
+    record {
+      all = entries_of c.finish-outgoing.result.0;
+      count =
+          let sent = c.finish-outgoing.ensures.handed in
+          let taken = c.take_all.ensures.handed in
+          let handed = c.count-handed.ensures.handed in
+          omega (arith, sent, taken, handed);
+      follow = left.ensures.follow;
+      images = subst
+          (λ n. EachImage (view.contents left.result.2) (view.unsynced left.result.2)
+          (ShowsBeginning g.K.Naming.base (entries_of c.finish-outgoing.result.0)
+          (left.result.0 - n)))
+          (sym c.args.self.opened_is) left.ensures.images;
+    }
