@@ -87,15 +87,19 @@ lengthen
 same "check of a damaged head" check
 same "apply to a damaged head" apply
 
-# ---- nor can a superblock make the program read more than its sizes allow
+# ---- nor do the sizes decide it: what lives does
 
 : >"$work/in"
-limited format "$work/large" --top 12 --roots 256 --slots 65536
+rm "$work/short"
+limited format "$work/short" --top 12 --roots 256 --slots 65536
 printf 'ok\n' >"$work/want"
-check "a file of the largest sizes is made" 0
-truncate -s "$length" "$work/large"
-limited check "$work/large"
-printf 'memory\n' >"$work/want"
-check "a cache of 1 GiB finds no room in 256 MiB" 3
+check "a file of the largest region is made" 0
+lengthen
+same "check of the largest region" check
+same "list of the largest region" list
+printf 'loader a\ndefine a %s\nfind a A\n' "$a" >"$work/in"
+same "apply to the largest region" apply
+[ "$(sed -n 2p "$work/got")" = "ok 2 A" ]
+check_last "a class is defined in the largest region"
 
 finish

@@ -29,22 +29,22 @@ sweep_program() {
     check_last "the program with a refused allocation: ${*:2}"
 }
 beside sweep_program "$work/script" 383 apply --memory
-beside sweep_program "$work/script" 383 apply FILE
+beside sweep_program "$work/script" 431 apply FILE
 beside sweep_program "$work/script" 91 format FILE
 # Only opening a file, and checking it.
-beside sweep_program /dev/null 316 apply FILE
-beside sweep_program /dev/null 236 check FILE
-beside sweep_program /dev/null 395 list FILE
+beside sweep_program /dev/null 363 apply FILE
+beside sweep_program /dev/null 283 check FILE
+beside sweep_program /dev/null 442 list FILE
 # The same for a cache that is started for threads: what they share, and the flusher's thread.
-beside sweep_program /dev/null 336 apply FILE --workers 2
-beside sweep_program "$work/script" 419 apply FILE --workers 2
+beside sweep_program /dev/null 386 apply FILE --workers 2
+beside sweep_program "$work/script" 467 apply FILE --workers 2
 # The same with the library only: one thread makes a loader and defines a class.
 files=$(find_program cm_bench_files)
 sweep_threads() {
     WORK=$work tests/refused_memory.py "$files" "$library" "$1" threads FILE --threads 1
     check_last "a cache for threads with a refused allocation"
 }
-beside sweep_threads 353
+beside sweep_threads 401
 end_sweeps
 
 bench=$(find_program cm_bench)

@@ -31,6 +31,6 @@ checks() {
 }
 
 checks
-checks "$library" 398
+checks "$library" 392
 
 finish

@@ -58,7 +58,8 @@ def planted():
                f"{edit}: its old text occurs once in its file, and the new one differs")
 
 
-PROOFS = re.compile(r"^use Rattle\.(cm_\w+)\.proofs\.?([\w.]*)\.\{([^}]*)\}$", re.MULTILINE)
+PROOFS = re.compile(r"^(?:pub )?use Rattle\.(cm_\w+)\.proofs\.?([\w.]*)\.\{([^}]*)\}$",
+                    re.MULTILINE)
 # What a crate passes on of its proofs, in proofs/Lib.antt; modules that are passed on whole.
 PASSED_ON = re.compile(r"^pub use (\w+)\.\{([^}]*)\}$", re.MULTILINE)
 WHOLE = re.compile(r"^pub mod (\w+)$", re.MULTILINE)

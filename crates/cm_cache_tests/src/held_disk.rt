@@ -2,7 +2,8 @@
 
 ghost use Rattle.std.specs.Prelude.{◌≡◌};
 
-use cm_disk::{DeviceFault, Disk, SimDisk};
+use cm_disk::{DeviceFault, Disk, SimDisk, WordRange};
+use cm_words::WordBuf;
 use std::alloc::{AllocError, Global};
 use std::sync::Arc;
 use std::sync::atomic::{AtomicU64, Ordering};
@@ -122,6 +123,14 @@ impl Disk for HeldDisk {
 
     fn read(&mut self, at: u64, out: &mut [u8]) -> Result<(), DeviceFault> {
         self.disk.read(at, out)
+    }
+
+    fn take_words(
+        &mut self,
+        alloc: Global,
+        range: WordRange,
+    ) -> Result<Result<WordBuf, AllocError>, DeviceFault> {
+        self.disk.take_words(alloc, range)
     }
 
     fn write_at(&mut self, at: u64, bytes: &[u8]) -> Result<(), DeviceFault> {

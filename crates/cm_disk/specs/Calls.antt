@@ -1,13 +1,16 @@
 -- What the calls of a disk do to its bytes, and how time passes during a call.
 -- Source: the project's own model of a disk, docs/CRASH.md.
-use Rattle.std.specs.Prelude.{◌≡◌, ◌<◌, ◌≤◌, ◌⊎◌, ◌+◌, ℕ, max, List, ◌++◌, length, take, drop}
+use Rattle.std.specs.Prelude.{◌≡◌, ◌<◌, ◌≤◌, ◌⊎◌, ◌+◌, ◌*◌, ℕ, max, List, ◌++◌, length, take, drop}
 use Rattle.std.specs.Prelude.{Result, IsErr, IsOk, OnOk, OnErr}
+use Rattle.cm_words.specs.Bytes.{packed_into}
 use Rattle.cm_disk.specs.Disk.{View, IsImage, IsDurable, IsWithin, widened, shortened}
 
--- a call of a disk, with its arguments: a read has a place and a number of bytes
+-- a call of a disk, with its arguments: a read has a place and a number of bytes, taking words a
+-- place and a number of words
 pub data DiskCall : Type 0 where
   Len : DiskCall
   Read : ℕ → ℕ → DiskCall
+  Take : ℕ → ℕ → DiskCall
   Write : ℕ → List ℕ → DiskCall
   Cut : ℕ → DiskCall
   Sync : DiskCall
@@ -15,6 +18,10 @@ pub data DiskCall : Type 0 where
 -- the old bytes with the range from `at` on overwritten; the range may extend past the old end
 abbrev pub overwritten : ℕ → List ℕ → List ℕ → List ℕ
 overwritten at bytes old = take at old ++ bytes ++ drop (at + length bytes) old
+
+-- the words in 8 * count bytes from `at` on, the lowest byte of each first
+abbrev pub words_in : ℕ → ℕ → List ℕ → List ℕ
+words_in at count contents = packed_into count (take (8 * count) (drop at contents))
 
 -- A write of n bytes was begun: its range holds any bytes, those outside are unchanged, and the
 -- length is any from the old one to the one that the write makes.
@@ -53,7 +60,7 @@ abbrev pub Passes : {D : Type 0} → View D → D → D → (List ℕ → Type 0
 Passes view old new during =
     Elapses (view.moment old) (view.moment new) (view.left_since old) (view.left_since new) during
 
--- a length or a read
+-- a length, a read, or words that are taken
 pub record LooksOnce {D T E : Type 0} (view : View D) (old new : D)
     (result : Result T E) : Type 0 where
   pub same : view.contents new ≡ view.contents old

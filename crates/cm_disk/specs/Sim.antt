@@ -4,7 +4,7 @@ use Rattle.std.specs.Prelude.{length, min, Option, Some, None, is_some, not, if�
 use Rattle.cm_disk.specs.declared.sim.SimDisk.{SimDisk}
 use Rattle.cm_disk.specs.Disk.{View, Unsynced, IsDurable, IsWithin, widened, shortened}
 use Rattle.cm_disk.specs.Calls.{overwritten, DiskCall}
-use Rattle.cm_disk.specs.Calls.DiskCall.{Len, Read, Write, Cut, Sync}
+use Rattle.cm_disk.specs.Calls.DiskCall.{Len, Read, Take, Write, Cut, Sync}
 use Rattle.cm_disk.specs.Medium.{medium_unsynced}
 use Rattle.cm_disk.specs.Moments.{LeftSince}
 
@@ -76,7 +76,7 @@ pub record SimStores (at : ℕ) (bytes : List ℕ) (armed : Option ℕ) (old new
 
 -- ---- what one call does to a disk, whatever kind of call it is
 
--- a length, a read, or a sync that failed
+-- a length, a read, words that are taken, or a sync that failed
 pub record OnlyReads (old new : SimDisk) : Type 0 where
   pub contents_stay : sim_contents new ≡ sim_contents old
   pub unsynced_stay : sim_unsynced new ≡ sim_unsynced old
@@ -121,7 +121,7 @@ sim_called old new ok = IsOneCall (sim_armed old) old new ok
 
 -- ---- what a certain call does in addition
 
--- a length or a read
+-- a length, a read, or words that are taken
 pub record IsAsked (old new : SimDisk) : Type 0 where
   pub no_memory : sim_refused new ≡ false
   pub syncs_stay : sim_syncs new ≡ sim_syncs old
@@ -145,6 +145,7 @@ pub record IsSynced (old new : SimDisk) (ok : Bool) : Type 0 where
 abbrev pub Makes : Option ℕ → DiskCall → SimDisk → SimDisk → Bool → Type 0
 Makes armed Len old new ok = IsAsked old new
 Makes armed (Read at n) old new ok = IsAsked old new
+Makes armed (Take at count) old new ok = IsAsked old new
 Makes armed (Write at bytes) old new ok = IsWritten at bytes armed old new
 Makes armed (Cut len) old new ok = IsShortened len old new ok
 Makes armed Sync old new ok = IsSynced old new ok

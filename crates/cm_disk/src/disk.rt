@@ -1,16 +1,28 @@
 //! The trait of all disks, with the whole disk model in each of its calls.
-ghost use Rattle.std.specs.Prelude.{◌≡◌, ◌≤◌, ◌+◌, ◌^◌, List, ℕ, Bool, length, take, drop, IfOk};
-ghost use Rattle.std.specs.Prelude.{OnOk, is_ok};
+ghost use Rattle.std.specs.Prelude.{◌≡◌, ◌≤◌, ◌+◌, ◌*◌, ◌^◌, List, ℕ, Bool, length, take, drop};
+ghost use Rattle.std.specs.Prelude.{IfOk, OnOk, is_ok};
+ghost use Rattle.cm_words.specs.Words.{words_of};
 ghost use Rattle.cm_disk.specs.Disk.{View, OnlyNow, IsImage, IsSound};
 ghost use Rattle.cm_disk.specs.Calls.{LooksOnce, WritesOnce, CutsOnce, SyncsOnce, DiskCall};
-ghost use Rattle.cm_disk.specs.Calls.DiskCall.{Len, Read, Write, Cut, Sync};
+ghost use Rattle.cm_disk.specs.Calls.{words_in};
+ghost use Rattle.cm_disk.specs.Calls.DiskCall.{Len, Read, Take, Write, Cut, Sync};
 
+use cm_words::WordBuf;
+use std::alloc::{AllocError, Global};
 use thiserror::Error;
 
 /// The device failed in this call.
 #[derive(Clone, Copy, Debug, PartialEq, Eq, Error)]
 #[error("the device failed")]
 pub struct DeviceFault;
+
+/// Words among a disk's bytes: `count` of them from the byte `at` on, each of eight bytes with the
+/// lowest first.
+#[derive(Clone, Copy, Debug, PartialEq, Eq)]
+pub struct WordRange {
+    pub at: u64,
+    pub count: usize,
+}
 
 /// A disk: a sequence of bytes that is read, written, cut and synced.
 ///
@@ -45,6 +57,22 @@ pub trait Disk {
         ensures looks { LooksOnce view self.old self.new result }
         ensures called { called self.old self.new (is_ok result) }
         ensures made { made (Read at (length out.old)) self.old self.new (is_ok result) };
+
+    /// The words of a range, in a buffer of exactly their size. A disk that holds them in memory
+    /// may hand over its own buffer; taking the same range again may then fail.
+    ///
+    /// The outer `Err` is a failure of the device, the inner one a failed allocation.
+    fn take_words(
+        &mut self,
+        alloc: Global,
+        range: WordRange,
+    ) -> Result<Result<WordBuf, AllocError>, DeviceFault>
+        requires { range.at + 8 * range.count ≤ length (view.contents self.old) }
+        ensures words { IfOk result (λ taken. IfOk taken (λ words. words
+            ≡ words_of (words_in range.at range.count (view.contents self.old)) range.count)) }
+        ensures looks { LooksOnce view self.old self.new result }
+        ensures called { called self.old self.new (is_ok result) }
+        ensures made { made (Take range.at range.count) self.old self.new (is_ok result) };
 
     /// Overwrites what is there, and may extend past the end. After an `Err` the range may hold any
     /// bytes, and the length is any from the old one to the one that the write makes.

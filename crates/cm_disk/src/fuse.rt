@@ -8,7 +8,9 @@ ghost use Rattle.cm_disk.specs.Fuse.{fuse_armed, fuse_made, IsFuseCall};
 ghost use Rattle.cm_disk.specs.Moments.{none_since_now};
 
 use crate::sim::SimDisk;
-use crate::{DeviceFault, Disk};
+use crate::{DeviceFault, Disk, WordRange};
+use cm_words::WordBuf;
+use std::alloc::{AllocError, Global};
 
 /// An in-memory disk with a fuse: it lets a number of calls through, then every call fails. A write
 /// that fails stores its first bytes.
@@ -75,6 +77,15 @@ impl Disk for FuseDisk {
     fn read(&mut self, at: u64, out: &mut [u8]) -> Result<(), DeviceFault> {
         self.burn();
         self.disk.read(at, out)
+    }
+
+    fn take_words(
+        &mut self,
+        alloc: Global,
+        range: WordRange,
+    ) -> Result<Result<WordBuf, AllocError>, DeviceFault> {
+        self.burn();
+        self.disk.take_words(alloc, range)
     }
 
     fn write_at(&mut self, at: u64, bytes: &[u8]) -> Result<(), DeviceFault> {

@@ -10,7 +10,7 @@ mod medium;
 mod sim;
 
 pub use choice::Choice;
-pub use disk::{DeviceFault, Disk};
+pub use disk::{DeviceFault, Disk, WordRange};
 pub use fuse::FuseDisk;
 pub use laws::{
     chosen_is_an_image, durable_has_one_image, image_has_a_choice, torn_write_is_an_image,

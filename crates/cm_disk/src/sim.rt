@@ -13,7 +13,8 @@ ghost use Rattle.cm_disk.specs.Sim.{sim_called, sim_made, IsFresh, stored_part};
 use crate::choice::Choice;
 use crate::history::History;
 use crate::medium::Medium;
-use crate::{DeviceFault, Disk};
+use crate::{DeviceFault, Disk, WordRange};
+use cm_words::WordBuf;
 use std::alloc::{AllocError, Global};
 
 /// An in-memory disk, empty at first. A call fails if the disk was armed for it; a write also fails
@@ -187,6 +188,20 @@ impl Disk for SimDisk {
         let start = at as usize;
         out.copy_from_slice(&self.medium.bytes[start..start + out.len()]);
         Ok(())
+    }
+
+    fn take_words(
+        &mut self,
+        alloc: Global,
+        range: WordRange,
+    ) -> Result<Result<WordBuf, AllocError>, DeviceFault> {
+        if self.begin_call().is_some() {
+            self.failures.note(&self.medium);
+            return Err(DeviceFault);
+        }
+        let start = range.at as usize;
+        let bytes = &self.medium.bytes[start..start + 8 * range.count];
+        Ok(WordBuf::from_bytes(alloc, bytes))
     }
 
     fn write_at(&mut self, at: u64, bytes: &[u8]) -> Result<(), DeviceFault> {

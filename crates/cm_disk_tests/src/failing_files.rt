@@ -46,7 +46,7 @@ fn after_a_write_that_failed_every_call_fails(rt: HostRuntime) -> Result<(), Fai
     fs::write(&rt, path, b"abcdef".as_slice())?;
     for cuts in [false, true] {
         let opened = OpenedFile::open_read_only(&rt, rt.alloc(), path)?;
-        let mut disk = FileDisk::of_file(opened, u64::MAX)?;
+        let mut disk = FileDisk::of_file(opened.read_on(rt.alloc(), u64::MAX)?);
         assert!(rt; holds_letters(&mut disk)?);
         assert!(rt; fails_for_good(&mut disk, cuts));
         assert_eq!(rt; fs::read_to_string(&rt, path)?.as_str(), "abcdef");

@@ -9,7 +9,7 @@ use std::test::*;
 /// The disk of a file with its first bytes, up to this many.
 fn open_up_to(rt: &HostRuntime, path: &str, reach: u64) -> Result<FileDisk, OpenError> {
     let opened = OpenedFile::open(rt, rt.alloc(), path)?;
-    FileDisk::of_file(opened, reach)
+    Ok(FileDisk::of_file(opened.read_on(rt.alloc(), reach)?))
 }
 
 /// Stores eight bytes with two writes, and cuts off the last one.

@@ -20,6 +20,8 @@ mod opening_files;
 mod reading;
 #[cfg(test)]
 mod stops;
+#[cfg(test)]
+mod taking;
 mod trimming;
 mod turning;
 

@@ -12,8 +12,9 @@ use Rattle.cm_disk.specs.Calls.{overwritten}
 use Rattle.cm_disk.specs.Disk.{IsBytes}
 use Rattle.cm_disk.proofs.{untouched_torn, uncut}
 use Rattle.cm_file_disk.specs.declared.history.Call.{Call}
-use Rattle.cm_file_disk.specs.declared.history.Call.TheVariants.{Opened, Wrote, NotWritten, Cut}
-use Rattle.cm_file_disk.specs.declared.history.Call.TheVariants.{NotCut, Synced, Failed}
+use Rattle.cm_file_disk.specs.declared.history.Call.TheVariants.{Opened, ReadOn, Wrote}
+use Rattle.cm_file_disk.specs.declared.history.Call.TheVariants.{NotWritten, Cut, NotCut, Synced}
+use Rattle.cm_file_disk.specs.declared.history.Call.TheVariants.{Failed}
 use Rattle.cm_file_disk.specs.State.{FileState}
 use Rattle.cm_file_disk.specs.Calls.{IsOpenedAs, CallFollows, after}
 
@@ -60,6 +61,7 @@ part_of_beginning at n bytes contents e le =
 
 abbrev pub next : Call → List ℕ → FileState → FileState
 next (Opened len) bytes old = after (Opened len) bytes (filled len bytes) old
+next (ReadOn at) bytes old = after (ReadOn at) bytes (overwritten at bytes old.now.bytes) old
 next (Wrote at) bytes old = after (Wrote at) bytes (overwritten at bytes old.now.bytes) old
 next (NotWritten at) bytes old = after (NotWritten at) bytes old.now.bytes old
 next (Cut len) bytes old = after (Cut len) bytes (take len old.now.bytes) old
@@ -73,6 +75,7 @@ follows (Opened len) bytes old = record {
   left = (filled_begins len bytes, filled_bytes len bytes);
   state = refl;
 }
+follows (ReadOn at) bytes old = record { left = refl; state = refl }
 follows (Wrote at) bytes old = record { left = refl; state = refl }
 follows (NotWritten at) bytes old = record {
   left = (untouched_torn at _ old.now.bytes old.now.bytes refl, λ are. are);

@@ -4,8 +4,9 @@ use Rattle.cm_disk.specs.Disk.{IsBytes}
 use Rattle.cm_disk.specs.Calls.{overwritten, IsTorn, IsCut}
 use Rattle.cm_disk.specs.Moments.{Moment}
 use Rattle.cm_file_disk.specs.declared.history.Call.{Call}
-use Rattle.cm_file_disk.specs.declared.history.Call.TheVariants.{Opened, Wrote, NotWritten, Cut}
-use Rattle.cm_file_disk.specs.declared.history.Call.TheVariants.{NotCut, Synced, Failed}
+use Rattle.cm_file_disk.specs.declared.history.Call.TheVariants.{Opened, ReadOn, Wrote}
+use Rattle.cm_file_disk.specs.declared.history.Call.TheVariants.{NotWritten, Cut, NotCut, Synced}
+use Rattle.cm_file_disk.specs.declared.history.Call.TheVariants.{Failed}
 use Rattle.cm_file_disk.specs.State.{FileState, opened_state, stored, opened, lowered}
 
 -- a file had this length when it was opened, and began with these bytes
@@ -14,10 +15,11 @@ pub record IsOpenedAs (len : ℕ) (beginning contents : List ℕ) : Type 0 where
   pub length_is : length contents ≡ len
 
 -- The bytes that a call leaves, given the old ones. Of an opened file only the first bytes are
--- known; after a failed write or cut the bytes are not known.
+-- known, and the words that were read; after a failed write or cut the bytes are not known.
 abbrev pub CallLeaves : Call → List ℕ → List ℕ → List ℕ → Type 0
 CallLeaves (Opened len) bytes old left =
     (length bytes ≤ len → IsOpenedAs len bytes left) × (IsBytes bytes → IsBytes left)
+CallLeaves (ReadOn at) bytes old left = left ≡ overwritten at bytes old
 CallLeaves (Wrote at) bytes old left = left ≡ overwritten at bytes old
 CallLeaves (NotWritten at) bytes old left =
     IsTorn at (length bytes) old left × (IsBytes old → IsBytes left)
@@ -37,6 +39,7 @@ gone during left old = record {
 -- the state after a call that left these bytes
 abbrev pub after : Call → List ℕ → List ℕ → FileState → FileState
 after (Opened len) bytes left old = opened_state left
+after (ReadOn at) bytes left old = opened_state left
 after (Wrote at) bytes left old = gone (opened at (length bytes) old.now) left old
 after (NotWritten at) bytes left old =
     record (gone (opened at (length bytes) old.now) left old) { failures = old.failures + 1 }

@@ -1,16 +1,19 @@
 -- What a disk over a file shows, and when its calls fail.
-use Rattle.std.specs.Prelude.{◌≡◌, ◌<◌, ◌≤◌, ◌+◌, ◌^◌, ℕ, Bool, true, false, List, [], length}
-use Rattle.std.specs.Prelude.{min, max}
+use Rattle.std.specs.Prelude.{◌≡◌, ◌<◌, ◌+◌, ◌^◌, ℕ, Bool, true, false, List, [], length}
+use Rattle.std.specs.Prelude.{nat_le, map}
+use Rattle.std.specs.List.{All}
 use Rattle.std.specs.Prelude.{Option, is_some, not, ◌&&◌, take, if◌then◌else◌}
 use Rattle.std.specs.declared.io.Error.{Error}
+use Rattle.cm_disk.specs.declared.disk.WordRange.{WordRange}
 use Rattle.cm_disk.specs.Calls.{DiskCall}
-use Rattle.cm_disk.specs.Calls.DiskCall.{Len, Read, Write, Cut, Sync}
+use Rattle.cm_disk.specs.Calls.DiskCall.{Len, Read, Take, Write, Cut, Sync}
 use Rattle.cm_disk.specs.Disk.{View, Unsynced, IsDurable}
 use Rattle.cm_disk.specs.Moments.{LeftSince}
 use Rattle.cm_file_disk.specs.declared.disk.FileDisk.{FileDisk}
 use Rattle.cm_file_disk.specs.declared.opening.OpenedFile.{OpenedFile}
 use Rattle.cm_file_disk.specs.State.{FileState, moment_unsynced}
-use Rattle.cm_file_disk.specs.Image.{image_holds, image_cause}
+use Rattle.cm_file_disk.specs.Runs.{IsOf, range_of}
+use Rattle.cm_file_disk.specs.Image.{image_held, image_runs, image_holds, image_cause}
 
 abbrev pub file_state : FileDisk → FileState
 file_state disk = disk.history.state
@@ -45,6 +48,13 @@ file_view = record {
 abbrev pub holds : FileDisk → ℕ → Bool
 holds disk n = image_holds disk.image n
 
+-- how many of its first bytes are held, and of which ranges the words are
+abbrev pub held_bytes : FileDisk → ℕ
+held_bytes disk = image_held disk.image
+
+abbrev pub held_ranges : FileDisk → List WordRange
+held_ranges disk = map range_of (image_runs disk.image)
+
 -- why the first write, cut or sync that failed did so
 abbrev pub file_cause : FileDisk → Option Error
 file_cause disk = image_cause disk.image
@@ -61,13 +71,15 @@ pub record IsCreatedFile (disk : FileDisk) : Type 0 where
   pub failures : file_failures disk ≡ 0
   pub moment : file_moment disk ≡ 0
 
--- The disk was just opened, and begins as its file did. Its bytes are held up to `reach`, or to the
--- end of the file's known beginning, and no further; none of them is known to be durable.
-pub record IsOpenedFile (file : OpenedFile) (reach : ℕ) (disk : FileDisk) : Type 0 where
+-- The disk was just opened, and begins as its file did. The bytes and words that were read from it
+-- are held, and no more; none of its bytes is known to be durable.
+pub record IsOpenedFile (file : OpenedFile) (disk : FileDisk) : Type 0 where
   pub length_is : length (file_contents disk) ≡ file.len
   pub begins : take (length file.beginning.items) (file_contents disk) ≡ file.beginning.items
-  pub held : holds disk (min reach file.len) ≡ true
-  pub no_more : (n : ℕ) → holds disk n ≡ true → n ≤ max reach (length file.beginning.items)
+  pub held : (n : ℕ) → holds disk n ≡ nat_le n (length file.beginning.items)
+  pub bytes : held_bytes disk ≡ length file.beginning.items
+  pub ranges : held_ranges disk ≡ map range_of file.runs.items
+  pub words : All (IsOf (file_contents disk)) file.runs.items
   pub none_stored : (i : ℕ) → i < 2 ^ 40 → (file_unsynced disk).is_open i ≡ true
   pub least : (file_unsynced disk).least ≡ 0
   pub greatest : (file_unsynced disk).greatest ≡ 2 ^ 40
@@ -78,6 +90,11 @@ pub record IsOpenedFile (file : OpenedFile) (reach : ℕ) (disk : FileDisk) : Ty
 -- nothing.
 pub record OnlyAsks (is_known : Bool) (old new : FileDisk) (ok : Bool) : Type 0 where
   pub exactly : ok ≡ is_known
+  pub held : (n : ℕ) → holds new n ≡ holds old n
+  pub cause : file_cause new ≡ file_cause old
+
+-- Words are taken: the bytes that are held are kept.
+pub record Takes (old new : FileDisk) : Type 0 where
   pub held : (n : ℕ) → holds new n ≡ holds old n
   pub cause : file_cause new ≡ file_cause old
 
@@ -104,6 +121,7 @@ pub record Syncs (old new : FileDisk) (ok : Bool) : Type 0 where
 abbrev pub file_made : DiskCall → FileDisk → FileDisk → Bool → Type 0
 file_made Len old new ok = OnlyAsks (not (is_lost old)) old new ok
 file_made (Read at n) old new ok = OnlyAsks (holds old (at + n)) old new ok
+file_made (Take at count) old new ok = Takes old new
 file_made (Write at bytes) old new ok = GivesUp old new ok
 file_made (Cut len) old new ok = GivesUp old new ok
 file_made Sync old new ok = Syncs old new ok

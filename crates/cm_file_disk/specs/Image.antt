@@ -1,30 +1,43 @@
 -- What is still known about a file's bytes.
-use Rattle.std.specs.Prelude.{ℕ, Bool, false, nat_le, List, ◌++◌, length, drop, Option}
+use Rattle.std.specs.Prelude.{ℕ, Bool, false, nat_le, List, [], ◌++◌, length, drop, Option}
 use Rattle.std.specs.Prelude.{Some, None}
 use Rattle.cm_file_disk.specs.declared.image.Image.{Image}
-use Rattle.cm_file_disk.specs.declared.image.Image.TheVariants.{Beginning, Length, Lost}
+use Rattle.cm_file_disk.specs.declared.image.Image.TheVariants.{Read, Length, Lost}
 use Rattle.std.specs.declared.io.Error.{Error}
+use Rattle.cm_file_disk.specs.declared.word_run.WordRun.{WordRun}
 
 -- these contents, with the image's bytes in place of the first ones
 abbrev pub image_bytes : Image → List ℕ → List ℕ
-image_bytes (Beginning bytes len) contents =
+image_bytes (Read bytes runs len) contents =
     bytes.items ++ drop (length bytes.items) contents
 image_bytes (Length len) contents = contents
 image_bytes (Lost cause) contents = contents
 
 -- the length according to the image; `length_now` if it has none
 abbrev pub image_length : Image → ℕ → ℕ
-image_length (Beginning bytes len) length_now = len
+image_length (Read bytes runs len) length_now = len
 image_length (Length len) length_now = len
 image_length (Lost cause) length_now = length_now
 
+-- the words that it has besides these
+abbrev pub image_runs : Image → List WordRun
+image_runs (Read bytes runs len) = runs.items
+image_runs (Length len) = []
+image_runs (Lost cause) = []
+
+-- how many of the first bytes it has
+abbrev pub image_held : Image → ℕ
+image_held (Read bytes runs len) = length bytes.items
+image_held (Length len) = 0
+image_held (Lost cause) = 0
+
 -- the image has the first n bytes
 abbrev pub image_holds : Image → ℕ → Bool
-image_holds (Beginning bytes len) n = nat_le n (length bytes.items)
+image_holds (Read bytes runs len) n = nat_le n (length bytes.items)
 image_holds (Length len) n = false
 image_holds (Lost cause) n = false
 
 abbrev pub image_cause : Image → Option Error
-image_cause (Beginning bytes len) = None
+image_cause (Read bytes runs len) = None
 image_cause (Length len) = None
 image_cause (Lost cause) = Some cause

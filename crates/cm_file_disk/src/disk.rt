@@ -1,17 +1,23 @@
 //! A disk over a file.
-ghost use Rattle.std.specs.Prelude.{◌≡◌, ◌≤◌, ◌+◌, ◌^◌, length, take, drop, IfOk, IfSome, is_none};
-ghost use Rattle.std.specs.Prelude.{is_some};
+ghost use Rattle.std.specs.Prelude.{◌≡◌, ◌≤◌, ◌+◌, ◌*◌, ◌^◌, ℕ, length, take, drop, IfOk, IfSome};
+ghost use Rattle.std.specs.Prelude.{IfErr, is_none, is_ok, is_some, nat_le, true};
+ghost use Rattle.std.specs.List.{All};
 ghost use Rattle.std.proofs.Common.{inl};
+ghost use Rattle.cm_words.specs.Words.{words_of};
+ghost use Rattle.cm_disk.specs.Calls.{words_in};
 ghost use Rattle.cm_disk.specs.Moments.{none_since_now};
-ghost use Rattle.cm_file_disk.specs.Image.{image_bytes, image_length};
+ghost use Rattle.cm_file_disk.specs.Image.{image_bytes, image_length, image_runs};
+ghost use Rattle.cm_file_disk.specs.Runs.{IsOf, are_ranges};
 ghost use Rattle.cm_file_disk.specs.State.{IsSoundState};
 
 use crate::fault::{CreateError, OpenError};
 use crate::history::{Call, History};
 use crate::image::Image;
 use crate::opening::{OpenedFile, create_file};
-use cm_disk::{DeviceFault, Disk};
-use std::alloc::Global;
+use crate::word_run::take_range;
+use cm_disk::{DeviceFault, Disk, WordRange};
+use cm_words::WordBuf;
+use std::alloc::{AllocError, Global};
 use std::fs::{File, Files};
 use std::io;
 use std::os::unix::fs::FileExt;
@@ -22,9 +28,10 @@ const PIECE: usize = 65536;
 
 /// A disk over a regular file that nothing else writes to.
 ///
-/// Its first bytes are read once, when it is opened, as many as are requested then. Reads of these
-/// are served from memory; every other read fails. Writes and cuts go to the file. The first of
-/// these frees the memory, and from then on every read fails.
+/// Its first bytes, and ranges of words after them, are read once, while it is still an
+/// [`OpenedFile`]. Reads of these bytes are served from memory, and a range of words is handed over
+/// when it is taken; every other read fails. Writes and cuts go to the file. The first of these
+/// frees the memory, and from then on every read fails.
 /// After a failed write, cut or sync every call fails, since the system may report the next sync as
 /// successful although bytes are lost. What the file holds follows the disk's contents as far as
 /// the system keeps its promises.
@@ -35,6 +42,7 @@ pub struct FileDisk {
     history: History,
     ghost sound: { IsSoundState history.state },
     ghost bytes_known: { image_bytes image history.state.now.bytes ≡ history.state.now.bytes },
+    ghost words_known: { All (IsOf history.state.now.bytes) (image_runs image) },
     ghost length_known: { image_length image (length history.state.now.bytes)
         ≡ length history.state.now.bytes },
 }
@@ -56,26 +64,75 @@ fn write_pieces(file: &File, at: u64, bytes: &[u8]) -> io::Result<()>
 
 impl FileDisk {
     ghost use Rattle.cm_file_disk.specs.File.{file_contents, is_lost, file_cause, holds};
+    ghost use Rattle.cm_file_disk.specs.File.{held_bytes, held_ranges};
     ghost use Rattle.cm_file_disk.specs.File.{IsOpenedFile, IsCreatedFile};
 
-    /// The disk of a file that was opened, with its first `reach` bytes, or all if it has fewer.
-    /// None of its bytes is known to be durable before the first sync.
+    /// The disk of a file that was opened, with the bytes and words that were read from it. None of
+    /// its bytes is known to be durable before the first sync.
+    #[tactic(auto, using(crate::proofs::Followed::begun))]
+    pub fn of_file(opened: OpenedFile) -> FileDisk
+        ensures { IsOpenedFile opened result }
+    {
+        let history = History::of_opened(opened.len, &opened.beginning, &opened.runs);
+        FileDisk {
+            file: opened.file,
+            image: Image::Read(opened.beginning, opened.runs, opened.len),
+            history,
+        }
+    }
+
+    /// The disk with the words of these ranges, which are read now. It has none of them if
+    /// something was written or cut, or if the file doesn't have these ranges, one after another,
+    /// after the bytes that were read.
     ///
     /// # Errors
-    /// [`OpenError::NoMemory`] if memory for the bytes can't be allocated, [`OpenError::Device`] if
-    /// the system doesn't read them. The file is unchanged.
-    #[tactic(auto, using(crate::proofs::Followed::begun))]
-    pub fn of_file(opened: OpenedFile, reach: u64) -> Result<FileDisk, OpenError>
-        ensures { IfOk result (IsOpenedFile opened reach) }
+    /// As of [`OpenedFile::read_on`].
+    pub fn read_words(self, alloc: Global, ranges: &[WordRange]) -> Result<FileDisk, OpenError>
+        ensures len { IfOk result (λ d. length (file_contents d) ≡ length (file_contents self)) }
+        ensures begins { IfOk result (λ d. (n : ℕ) → holds self n ≡ true
+            → take n (file_contents d) ≡ take n (file_contents self)) }
+        ensures held { IfOk result (λ d. (n : ℕ) → holds d n ≡ holds self n) }
+        ensures words { IfOk result (λ d. holds self 0 ≡ true
+            → are_ranges (held_bytes self) (length (file_contents self)) ranges.now ≡ true
+            → held_ranges d ≡ ranges.now) }
+        ensures cause { IfOk result (λ d. file_cause d ≡ file_cause self) }
     {
-        let len = opened.len();
-        let read = opened.read_on(reach)?;
-        let history = History::of_opened(len, &read.beginning);
-        Ok(FileDisk {
-            file: read.file,
-            image: Image::Beginning(read.beginning, len),
+        match self.into_opened(alloc) {
+            Ok(opened) => Ok(FileDisk::of_file(opened.read_words(alloc, ranges)?)),
+            Err(disk) => Ok(disk),
+        }
+    }
+
+    /// The file, with the first bytes that were read from it; or the disk, once something was
+    /// written or cut.
+    fn into_opened(self, alloc: Global) -> Result<OpenedFile, FileDisk>
+        ensures ok { is_ok result ≡ holds self 0 }
+        ensures len { IfOk result (λ f. f.len ≡ length (file_contents self)) }
+        ensures begins { IfOk result (λ f.
+            take (length f.beginning.items) (file_contents self) ≡ f.beginning.items) }
+        ensures held { IfOk result (λ f.
+            (n : ℕ) → holds self n ≡ nat_le n (length f.beginning.items)) }
+        ensures bytes { IfOk result (λ f. length f.beginning.items ≡ held_bytes self) }
+        ensures same { IfErr result (λ d. d ≡ self) }
+    {
+        let FileDisk {
+            file,
+            image,
             history,
-        })
+        } = self;
+        match image {
+            Image::Read(beginning, _, len) => Ok(OpenedFile {
+                file,
+                len,
+                beginning,
+                runs: Vec::new(alloc),
+            }),
+            image => Err(FileDisk {
+                file,
+                image,
+                history,
+            }),
+        }
     }
 
     /// Creates a file of no bytes if nothing has that name. The file and its name in the folder are
@@ -93,7 +150,7 @@ impl FileDisk {
         let file = create_file(rt, path)?;
         Ok(FileDisk {
             file,
-            image: Image::Beginning(Vec::new(alloc), 0),
+            image: Image::Read(Vec::new(alloc), Vec::new(alloc), 0),
             history: History::new(),
         })
     }
@@ -114,7 +171,7 @@ impl FileDisk {
         ensures some { IfSome result (λ n. n ≡ length (file_contents self.now)) }
     {
         match &self.image {
-            Image::Beginning(_, len) | Image::Length(len) => Some(*len),
+            Image::Read(_, _, len) | Image::Length(len) => Some(*len),
             Image::Lost(_) => None,
         }
     }
@@ -129,7 +186,26 @@ impl FileDisk {
     {
         let start = at as usize;
         match &self.image {
-            Image::Beginning(bytes, _) => bytes.get(start..start + count),
+            Image::Read(bytes, _, _) => bytes.get(start..start + count),
+            _ => None,
+        }
+    }
+
+    /// Takes the words of a range: a copy of the first bytes, or the range that was read as words.
+    fn take_held(&mut self, alloc: Global, range: WordRange) -> Option<Result<WordBuf, AllocError>>
+        requires { range.at + 8 * range.count ≤ length (file_contents self.old) }
+        ensures words { IfSome result (λ taken. IfOk taken (λ words. words
+            ≡ words_of (words_in range.at range.count (file_contents self.old)) range.count)) }
+        ensures lost { is_lost self.old ≡ true → is_none result ≡ true }
+        ensures state { self.new.history.state ≡ self.old.history.state }
+        ensures held { (n : ℕ) → holds self.new n ≡ holds self.old n }
+        ensures cause { file_cause self.new ≡ file_cause self.old }
+    {
+        if let Some(bytes) = self.held(range.at, 8 * range.count) {
+            return Some(WordBuf::from_bytes(alloc, bytes));
+        }
+        match &mut self.image {
+            Image::Read(_, runs, _) => Some(Ok(take_range(runs, range)?)),
             _ => None,
         }
     }
@@ -174,6 +250,17 @@ impl Disk for FileDisk {
         };
         out.copy_from_slice(bytes);
         Ok(())
+    }
+
+    fn take_words(
+        &mut self,
+        alloc: Global,
+        range: WordRange,
+    ) -> Result<Result<WordBuf, AllocError>, DeviceFault> {
+        match self.take_held(alloc, range) {
+            Some(taken) => Ok(taken),
+            None => Err(self.refuse()),
+        }
     }
 
     fn write_at(&mut self, at: u64, bytes: &[u8]) -> Result<(), DeviceFault> {

@@ -3,7 +3,7 @@
 ghost use Rattle.std.specs.Prelude.{◌≡◌};
 ghost use Rattle.cm_file_disk.specs.declared.fault.OpenError.TheVariants as open_error;
 
-use std::alloc::AllocError;
+use std::alloc::{AllocError, AllocFailed};
 use std::io;
 use thiserror::Error;
 
@@ -36,6 +36,14 @@ impl From<AllocError> for OpenError {
     ghost from_gives = { λ _ e. e ≡ open_error.NoMemory };
 
     fn from(_error: AllocError) -> OpenError {
+        OpenError::NoMemory
+    }
+}
+
+impl<T: Drop> From<AllocFailed<T>> for OpenError {
+    ghost from_gives = { λ _ e. e ≡ open_error.NoMemory };
+
+    fn from(_error: AllocFailed<T>) -> OpenError {
         OpenError::NoMemory
     }
 }

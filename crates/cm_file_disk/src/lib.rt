@@ -6,6 +6,8 @@ mod fault;
 mod history;
 mod image;
 mod opening;
+mod pieces;
+mod word_run;
 
 pub use disk::FileDisk;
 pub use fault::{CreateError, OpenError};

@@ -1,13 +1,18 @@
 //! Files of the system, opened or created for use as a disk.
-ghost use Rattle.std.specs.Prelude.{◌≡◌, ◌≢◌, ◌≤◌, ◌<◌, ◌^◌, ◌↔◌, Err, IfOk, length, take, min};
-ghost use Rattle.std.specs.Prelude.{max};
+ghost use Rattle.std.specs.Prelude.{◌≡◌, ◌≢◌, ◌≤◌, ◌<◌, ◌^◌, ◌↔◌, ◌+◌, ◌*◌, Err, IfOk};
+ghost use Rattle.std.specs.Prelude.{length, take, map, min, max, true};
+ghost use Rattle.std.specs.List.{All};
 ghost use Rattle.std.specs.Fs.{metadata_len, file_type, IsFile};
 ghost use Rattle.std.specs.IoError.{error_kind};
 ghost use Rattle.std.specs.declared.io.ErrorKind.TheVariants.{AlreadyExists};
 ghost use Rattle.cm_file_disk.specs.declared.fault.OpenError.TheVariants as open_error;
 ghost use Rattle.cm_file_disk.specs.declared.fault.CreateError.TheVariants as create_error;
+ghost use Rattle.cm_file_disk.specs.Runs.{range_of, are_ranges, EndsInLimit, IsFull};
 
 use crate::fault::{CreateError, OpenError};
+use crate::pieces::Pieces;
+use crate::word_run::WordRun;
+use cm_disk::WordRange;
 use std::alloc::Global;
 use std::fs::{self, File, Files, Metadata, OpenOptions};
 use std::io;
@@ -24,15 +29,18 @@ const STANDARD_ERROR: i32 = 2;
 /// How many bytes of a file are read when it is opened.
 const BEGINNING: u64 = 4096;
 
-/// A regular file that was opened: its length, and its first bytes.
+/// A regular file that was opened: its length, its first bytes, and ranges of words after these.
 #[derive(Drop)]
 pub struct OpenedFile {
     pub(crate) file: File,
-    len: u64,
+    pub(crate) len: u64,
     /// The first 4,096 bytes, or all if it has fewer; [`OpenedFile::read_on`] reads more.
     pub(crate) beginning: Vec<u8>,
+    /// What [`OpenedFile::read_words`] read.
+    pub(crate) runs: Vec<WordRun>,
     ghost is_within_limit: { len ≤ 2 ^ 40 },
-    ghost is_beginning: { length beginning.items ≤ len },
+    ghost in_order: { are_ranges (length beginning.items) len (map range_of runs.items) ≡ true },
+    ghost full: { All IsFull runs.items },
 }
 
 impl OpenedFile {
@@ -80,8 +88,13 @@ impl OpenedFile {
         &self.beginning
     }
 
-    /// Reads more bytes, up to this many or the file's end.
-    pub(crate) fn read_on(self, reach: u64) -> Result<OpenedFile, OpenError>
+    /// Reads more bytes, up to this many or the file's end. Words that were read before are
+    /// dropped.
+    ///
+    /// # Errors
+    /// [`OpenError::NoMemory`] if memory for the bytes can't be allocated, [`OpenError::Device`] if
+    /// the system doesn't read them. The file is unchanged.
+    pub fn read_on(self, alloc: Global, reach: u64) -> Result<OpenedFile, OpenError>
         ensures len { IfOk result (λ f. f.len ≡ self.len) }
         ensures begins { IfOk result (λ f.
             take (length self.beginning.items) f.beginning.items ≡ self.beginning.items) }
@@ -89,18 +102,83 @@ impl OpenedFile {
             ≡ max (length self.beginning.items) (min reach self.len)) }
     {
         let mut bytes = self.beginning;
-        let known = bytes.len();
         let wanted = reach.min(self.len) as usize;
-        if known < wanted {
-            bytes.resize(wanted, 0)?;
-            self.file.read_exact_at(&mut bytes[known..], known as u64)?;
-        }
+        Pieces::new(&self.file, alloc)?.read_up_to(&mut bytes, wanted)?;
         Ok(OpenedFile {
             file: self.file,
             len: self.len,
             beginning: bytes,
+            runs: Vec::new(alloc),
         })
     }
+
+    /// Reads the words of these ranges, which lie one after another, after the bytes that were
+    /// read. Words that were read before are dropped. If the file doesn't have such ranges, nothing
+    /// is read, and nothing is dropped.
+    ///
+    /// # Errors
+    /// As of [`OpenedFile::read_on`].
+    pub fn read_words(self, alloc: Global, ranges: &[WordRange]) -> Result<OpenedFile, OpenError>
+        ensures len { IfOk result (λ f. f.len ≡ self.len) }
+        ensures beginning { IfOk result (λ f. f.beginning.items ≡ self.beginning.items) }
+        ensures ranges { IfOk result (λ f.
+            are_ranges (length self.beginning.items) self.len ranges.now ≡ true
+            → map range_of f.runs.items ≡ ranges.now) }
+    {
+        if !self.are_in_order(ranges) {
+            return Ok(self);
+        }
+        let OpenedFile {
+            file,
+            len,
+            beginning,
+            runs: _,
+        } = self;
+        let runs = read_runs(&mut Pieces::new(&file, alloc)?, alloc, ranges)?;
+        Ok(OpenedFile {
+            file,
+            len,
+            beginning,
+            runs,
+        })
+    }
+
+    // Whether the file has these ranges, one after another, after the bytes that were read.
+    fn are_in_order(&self, ranges: &[WordRange]) -> bool
+        ensures { result
+            ≡ are_ranges (length self.now.beginning.items) self.now.len ranges.now }
+    {
+        let mut from = self.beginning.len() as u64;
+        for range in ranges {
+            let within = self.len.saturating_sub(range.at) / 8;
+            if range.at < from || range.at > self.len || within < range.count as u64 {
+                return false;
+            }
+            from = range.at + 8 * range.count as u64;
+        }
+        true
+    }
+}
+
+/// Reads the words of each range.
+fn read_runs(
+    pieces: &mut Pieces,
+    alloc: Global,
+    ranges: &[WordRange],
+) -> Result<Vec<WordRun>, OpenError>
+    requires { All EndsInLimit ranges.now }
+    ensures ranges { IfOk result (λ runs. map range_of runs.items ≡ ranges.now) }
+    ensures full { IfOk result (λ runs. All IsFull runs.items) }
+{
+    let mut runs = Vec::with_capacity(alloc, ranges.len())?;
+    for range in ranges {
+        let words = pieces.words(alloc, *range)?;
+        runs.push(WordRun {
+            at: range.at,
+            words: Some(words),
+        })?;
+    }
+    Ok(runs)
 }
 
 /// The length of a file, if it is regular and not too long.
@@ -147,6 +225,7 @@ fn open_file(
         file,
         len,
         beginning,
+        runs: Vec::new(alloc),
     })
 }
 

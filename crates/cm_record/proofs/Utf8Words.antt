@@ -11,7 +11,7 @@ use Rattle.cm_class.specs.declared.kind.Kind.TheVariants as kinds
 use Rattle.cm_class.specs.Names.{names_utf8, utf8}
 use Rattle.cm_class.specs.Reading.{tag_of, tag_number}
 use Rattle.cm_class.proofs.{number_is}
-use Rattle.cm_record_layout.specs.Packing.{first_of, second_of, third_of, fourth_of, upper_of}
+use Rattle.cm_record_layout.specs.Packing.{first_of, second_of, upper_of}
 use Rattle.cm_record_layout.specs.Layout.{IsRecordOf}
 use Rattle.cm_record.specs.declared.run.Run.{Run}
 use Rattle.cm_record.specs.Constants.{constant_at_index, is_second_word, kept_of_kind, word_kept}

@@ -56,15 +56,6 @@ impl Model for Record {
     ghost invariant = { λ r. IsRecord r.words.words × IsNameRun r.words.words r.name };
 }
 
-/// The words of a class, as its record.
-fn record_of(words: WordBuf) -> Record
-    requires { IsRecord words.words }
-    ensures { result ≡ words.words }
-{
-    let name = class_name_run(words.as_slice());
-    Record { words, name }
-}
-
 /// Where the bytes of the class's name are in the words of its record.
 fn class_name_run(words: &[u64]) -> Run
     requires { IsRecord words.now }
@@ -79,7 +70,7 @@ pub fn build(alloc: Global, class: &Class) -> Result<Record, RecordRefusal>
     ensures too_long { IsErrOf result RecordRefusal.TooLong ↔ (limit < length (lay class.now)) }
 {
     let words = write_class(alloc, class)?;
-    Ok(record_of(words))
+    Ok(Record::of_words(words))
 }
 
 impl Record {
@@ -111,16 +102,17 @@ impl Record {
         if !is_record(words) {
             return Err(RecordFault::NotARecord);
         }
-        Ok(Record::of_words(alloc, words)?)
+        Ok(Record::of_words(WordBuf::from_slice(alloc, words)?))
     }
 
-    /// The record of these words, which are known to be one, so nothing is checked.
-    pub fn of_words(alloc: Global, words: &[u64]) -> Result<Record, AllocError>
-        requires { IsRecord words.now }
-        ensures { IfOk result (λ r. r ≡ words.now) }
+    /// The record of these words, which are known to be one, so nothing is checked. It keeps the
+    /// buffer.
+    pub fn of_words(words: WordBuf) -> Record
+        requires { IsRecord words.words }
+        ensures { result ≡ words.words }
     {
-        let words = WordBuf::from_slice(alloc, words)?;
-        Ok(record_of(words))
+        let name = class_name_run(words.as_slice());
+        Record { words, name }
     }
 
     /// Whether another record has the same words, and so belongs to the same class.

@@ -1,6 +1,6 @@
 -- A word holds the bytes of a run.
--- On `word_from`, for crates above.
-use Rattle.std.proofs.Common.{◌≡◌, ◌<◌, ◌≤◌, ◌-◌, ℕ, zero, suc, List, [], ◌∷◌, ◌++◌, length, get_or}
+-- On `packed`, for crates above.
+use Rattle.std.proofs.Common.{◌≡◌, ◌<◌, ◌≤◌, ◌-◌, ℕ, suc, List, [], ◌∷◌, ◌++◌, length, get_or}
 use Rattle.std.proofs.Common.{take, replicate, inl, inr, refl, sym, ◌∙◌, ap, arith}
 use Rattle.std.specs.Int.{w64, from_le_bytes, to_le_bytes}
 use Rattle.std.proofs.lemmas.List.{length-take, length-append, length-replicate, take_all, take_at}

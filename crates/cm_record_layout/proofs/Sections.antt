@@ -1,14 +1,13 @@
 -- Where the sections of a class are in its record.
 -- On `lay`, `first_of`, `attribute_runs_at`, for crates above.
-use Rattle.std.proofs.Common.{◌≡◌, ◌≤◌, ◌+◌, ◌*◌, ℕ, List, [], ◌∷◌, ◌++◌, length, get_or, drop}
+use Rattle.std.proofs.Common.{◌≡◌, ◌≤◌, ◌+◌, ◌*◌, ℕ, List, ◌∷◌, ◌++◌, length, get_or, drop}
 use Rattle.std.proofs.Common.{refl, sym, ◌∙◌, ap, subst, arith, append_assoc, length-append}
 use Rattle.std.proofs.lemmas.List.{append-nil, drop_at}
-use Rattle.cm_class.specs.declared.class_file.Attribute.{Attribute}
 use Rattle.cm_class.specs.declared.class_file.ClassFile.{ClassFile}
 use Rattle.cm_class.specs.Spelling.{HasSpelling}
 use Rattle.cm_record_layout.specs.Packing.{four_numbers, first_of, second_of, third_of, fourth_of}
 use Rattle.cm_record_layout.specs.Layout.{head, lay, directory, utf8_runs, members}
-use Rattle.cm_record_layout.specs.Layout.{member_attributes, attributes, attribute_runs}
+use Rattle.cm_record_layout.specs.Layout.{attributes, attribute_runs}
 use Rattle.cm_record_layout.specs.Layout.{all_members, all_attributes, interfaces_at, members_at}
 use Rattle.cm_record_layout.specs.Layout.{attributes_at, runs_at, attribute_runs_at, record_len}
 use Rattle.cm_record_layout.specs.Layout.{limit, IsRecordOf, IsRecord}

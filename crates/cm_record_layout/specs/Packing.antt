@@ -1,20 +1,11 @@
 -- Bytes in words, and small numbers side by side in a word.
-use Rattle.std.specs.Prelude.{ℕ, zero, suc, ◌+◌, ◌*◌, ◌/◌, ◌%◌, ◌^◌, List, [], ◌∷◌, length, drop}
-use Rattle.std.specs.Int.{w64, from_le_bytes}
--- a word's eight bytes, and each word from them
+use Rattle.std.specs.Prelude.{ℕ, ◌+◌, ◌*◌, ◌/◌, ◌%◌, ◌^◌, List, length}
+-- a word's eight bytes, and each word as these
 unfoldable pub use Rattle.cm_words.specs.Bytes.{bytes_of}
 pub use Rattle.cm_words.specs.Bytes.{word_bytes}
-
--- the word of the first eight bytes, the first of them lowest; if there are fewer, the remaining
--- bits are 0
-unfoldable pub word_from : List ℕ → ℕ
-word_from bytes = from_le_bytes w64 bytes
-
--- this many words: byte j is bits 8 * (j mod 8) and up of word j div 8, and the unused bits of the
--- last word are 0
-abbrev pub packed_into : ℕ → List ℕ → List ℕ
-packed_into zero bytes = []
-packed_into (suc n) bytes = word_from bytes ∷ packed_into n (drop 8 bytes)
+-- the word of the first eight bytes, and a number of words
+unfoldable pub use Rattle.cm_words.specs.Bytes.{word_from}
+pub use Rattle.cm_words.specs.Bytes.{packed_into}
 
 -- how many words a run of `count` bytes takes
 abbrev pub run_words : ℕ → ℕ

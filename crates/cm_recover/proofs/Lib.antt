@@ -5,8 +5,9 @@ mod Gate
 mod Unfinished
 mod Halves
 mod Readings
-mod Packs
 mod RecordPlaces
+mod RecordRows
+mod RecordRanges
 mod Verdicts
 mod Passing
 mod Shared

@@ -1,5 +1,5 @@
 -- Where the record of a live row lies.
--- For `SecondPass::class_at`, `SecondPass::take_class`, `prepare_record`.
+-- For `SecondPass::range_at`, `SecondPass::take_class`, `SecondPass::prepare`.
 use Rattle.std.proofs.Common.{◌≡◌, ℕ, ◌+◌, ◌*◌, ◌^◌, ◌<◌, ◌≤◌, Bool, true, false, cond, List}
 use Rattle.std.proofs.Common.{length, Option, Some, None, Err, refl, sym, ap, ◌∙◌, arith, is_some}
 use Rattle.std.proofs.Math.Nat.{pow-le-pow_right}

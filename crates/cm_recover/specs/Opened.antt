@@ -1,7 +1,7 @@
 -- The result of opening a file: the accepted cache and its committer, both with what the file
 -- stands for.
 use Rattle.std.specs.Prelude.{◌≡◌, ◌<◌, ◌≤◌, ◌⊎◌, ◌^◌, ℕ, List, [], ◌∷◌, length, None, Bool}
-use Rattle.std.specs.Prelude.{Result, Ok, Err, true, false, nat_lt, if◌then◌else◌}
+use Rattle.std.specs.Prelude.{Result, Ok, Err, IfOk, IfErr, true, false, nat_lt, if◌then◌else◌}
 use Rattle.std.specs.FinMap as map
 use Rattle.cm_class.specs.declared.class_file.ClassFile.{ClassFile}
 use Rattle.cm_pool.specs.Geometry.{IsGeometry}
@@ -10,8 +10,9 @@ use Rattle.cm_layout.specs.declared.row.Row.{Row}
 use Rattle.cm_layout.specs.declared.row.Row.TheVariants.{Loader, Class}
 use Rattle.cm_layout.specs.Rows.{rows_with, bare}
 use Rattle.cm_layout.specs.Frames.{entry_version}
+use Rattle.cm_layout.specs.Laws.{IsNewest}
 use Rattle.cm_layout.specs.Framing.{Framing, IsRightFraming, Matches}
-use Rattle.cm_disk.specs.Disk.{View, Unsynced, IsImage, IsWithin}
+use Rattle.cm_disk.specs.Disk.{View, Unsynced, IsImage, IsWithin, IsDurable}
 use Rattle.cm_guards.specs.Calls.{LeavesOnly}
 use Rattle.cm_state.specs.Stands.{Stands, Arenas}
 use Rattle.cm_state.specs.State.{words_show}
@@ -25,7 +26,7 @@ use Rattle.cm_commit.specs.States.{CommitterState, ShowsCache}
 use Rattle.cm_commit.specs.declared.journal_end.JournalEnd.{JournalEnd}
 use Rattle.cm_commit.specs.Checkpoints.{renewed_journal}
 use Rattle.cm_commit.specs.Committed.{end_slot}
-use Rattle.cm_recover.specs.Opening.{other_is_open}
+use Rattle.cm_recover.specs.Opening.{IsFaultIn, other_is_open}
 use Rattle.cm_recover.specs.declared.opening.NotOpened.{NotOpened}
 use Rattle.cm_recover.specs.declared.fault.OpenFault.TheVariants as open_fault
 
@@ -163,3 +164,14 @@ disk_after (Err not_opened) = not_opened.disk
 abbrev pub MeetsDevice : {A D : Type 0} → Result A (NotOpened D) → Type 0
 MeetsDevice (Ok opened) = ⊥
 MeetsDevice (Err not_opened) = not_opened.fault ≡ open_fault.Device
+
+-- What a file is opened to, and what opening does to its disk.
+pub record OpensFile {D : Type 0} (view : View D) (disk : D)
+    (result : Result (FrontState × CommitterState D) (NotOpened D)) : Type 0 where
+  pub opened : IfOk result (λ p. Opens (view.contents disk) p.0 p.1)
+  pub same : IfOk result (λ p. StandsForSame (view.contents disk) (view.contents p.1.disk))
+  pub newest : IfOk result (λ p. IsNewest (view.contents p.1.disk))
+  pub stored : IfOk result
+      (λ p. IsDurable (view.contents p.1.disk) (view.unsynced p.1.disk))
+  pub fault : IfErr result (λ e. IsFaultIn e.fault (verdict (view.contents disk)))
+  pub run : OpensThrough view disk (disk_after result) (MeetsDevice result)

@@ -1,6 +1,6 @@
--- The second pass over a file, in memory: the records of the live rows are read one after another,
--- and the result for each is what the verdict's definitions say.
-use Rattle.std.specs.Prelude.{◌≡◌, ◌<◌, ◌≤◌, ℕ, ◌+◌, List, [], ◌∷◌, ◌++◌, length}
+-- The second pass over a file, in memory: the records of the live rows are read and judged, and the
+-- result for each is what the verdict's definitions say.
+use Rattle.std.specs.Prelude.{◌≡◌, ◌<◌, ◌≤◌, ℕ, ◌+◌, ◌^◌, List, [], ◌∷◌, ◌++◌, length}
 use Rattle.std.specs.Prelude.{Option, Some, None, Result, Ok, Err, if◌then◌else◌}
 use Rattle.std.specs.Arc.{arc_value}
 use Rattle.cm_class.specs.declared.class_file.ClassFile.{ClassFile}
@@ -14,17 +14,24 @@ use Rattle.cm_layout.specs.declared.row.Row.{Row}
 use Rattle.cm_layout.specs.declared.row.Row.TheVariants.{Loader, Class}
 use Rattle.cm_layout.specs.Rows.{rows_with, row_with, bare}
 use Rattle.cm_layout.specs.Rules.{broken_live_rule}
-use Rattle.cm_layout.specs.Frames.{BareRow}
+use Rattle.cm_layout.specs.Frames.{BareRow, LiveRowsKeep}
 use Rattle.cm_rows.specs.Rows.{LiveRows}
 use Rattle.cm_commit.specs.GroupPlans.{whole_roots}
+use Rattle.cm_disk.specs.Disk.{View}
+use Rattle.cm_guards.specs.Calls.{Reads}
 use Rattle.cm_verdict.specs.declared.defined_at.DefinedAt.{DefinedAt}
 use Rattle.cm_verdict.specs.declared.fault.Damage.{Damage}
 use Rattle.cm_verdict.specs.declared.fault.Damage.TheVariants as damage
 use Rattle.cm_verdict.specs.declared.fault.FileFault.{FileFault}
 use Rattle.cm_verdict.specs.Faults.{◌>>=◌, at_slot}
 use Rattle.cm_verdict.specs.Verdict.{Standing, is_whole, class_kept, words_at, class_found}
+use Rattle.cm_verdict.specs.Verdict.{verdict}
 use Rattle.cm_recover.specs.declared.fault.OpenFault.{OpenFault}
+use Rattle.cm_recover.specs.declared.fault.OpenFault.TheVariants as open_fault
 use Rattle.cm_recover.specs.declared.standing.StandingFile.{StandingFile}
+use Rattle.cm_recover.specs.declared.standing.ReadRows.{ReadRows}
+use Rattle.cm_recover.specs.Judging.{AreTaken, AreJudged}
+use Rattle.cm_verdict.specs.Found.{Found, found_in}
 use Rattle.cm_recover.specs.Opening.{IsFaultIn, other_is_open}
 
 -- ---- results
@@ -53,7 +60,12 @@ pub record IsPlace (sizes : Sizes) (place : Place) : Type 0 where
   pub chunk : place.chunk.at + chunk_size place.chunk.order ≤ chunk_size sizes.top
   pub words : place.offset + place.words ≤ chunk_size place.chunk.order
 
--- the class at a place, whatever its name
+-- the place of a row's class is one
+abbrev pub HasPlace : Sizes → Row DefinedAt → Type 0
+HasPlace sizes (Loader r) = Unit {0}
+HasPlace sizes (Class r at) = IsPlace sizes r.place
+
+-- the class of a place, whatever its name
 abbrev pub if_class : Option ClassFile → Result ClassFile Damage
 if_class None = Err damage.Record
 if_class (Some c) = Ok c
@@ -120,3 +132,40 @@ pub record IsStanding (contents : List ℕ) (file : StandingFile) (s : Standing)
   pub rows : file.rows ≡ record { sizes = s.found.sizes; rows = rows_with lay s.rows }
   pub committed_sizes : file.committed.sizes ≡ s.found.sizes
   pub committed : rows_with arc_value file.committed.rows ≡ rows_with lay s.rows
+
+-- ---- the file, while its records are judged
+
+-- what was found in these contents, in memory
+pub record IsFoundIn (contents : List ℕ) (file : ReadRows) (f : Found) : Type 0 where
+  pub found_is : found_in contents ≡ Ok f
+  pub geometry : file.pass.geometry ≡ f.sizes
+  pub long : file.pass.long ≡ length contents
+  pub number : file.pass.number ≡ f.number
+  pub rows : file.found.rows ≡ f.rows
+  pub half : file.half ≡ f.half
+  pub head : file.head ≡ f.head
+  pub end : file.end ≡ f.end
+  pub other : file.other_open ≡ other_is_open f.sizes f.half contents
+  pub short : length contents ≤ 2 ^ 40
+  pub live : LiveRowsKeep f.sizes f.number [] (bare f.rows)
+
+-- the words of the records were taken
+pub record IsReadOf (contents : List ℕ) (file : ReadRows) : Type 0 where
+  pub found : Found
+  pub is : IsFoundIn contents file found
+  pub taken : AreTaken found.sizes contents found.rows file.records.items
+
+-- and judged
+pub record IsJudgedOf (contents : List ℕ) (file : ReadRows) : Type 0 where
+  pub found : Found
+  pub is : IsFoundIn contents file found
+  pub judged : AreJudged found.sizes contents found.rows file.records.items
+
+-- ---- reading it
+
+-- The result is the verdict on the contents, and the disk is only read.
+pub record ReadsStanding {D : Type 0} (view : View D) (old new : D)
+    (result : Result StandingFile OpenFault) : Type 0 where
+  pub standing : FollowsVerdict (IsStanding (view.contents old)) result
+      (verdict (view.contents old))
+  pub reads : Reads view old new (result ≡ Err open_fault.Device)

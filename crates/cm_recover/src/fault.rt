@@ -9,7 +9,7 @@ ghost use Rattle.cm_recover.specs.Texts.{open_fault_text};
 use cm_commit::RenewFault;
 use cm_disk::DeviceFault;
 use cm_verdict::{Damage, FileFault};
-use std::alloc::AllocError;
+use std::alloc::{AllocError, AllocFailed};
 use std::fmt::{self, Display, Formatter};
 use thiserror::Error;
 
@@ -106,6 +106,14 @@ impl From<AllocError> for OpenFault {
     ghost from_gives = { λ _ e. e ≡ open_fault.NoMemory };
 
     fn from(_error: AllocError) -> OpenFault {
+        OpenFault::NoMemory
+    }
+}
+
+impl<T: Drop> From<AllocFailed<T>> for OpenFault {
+    ghost from_gives = { λ _ e. e ≡ open_fault.NoMemory };
+
+    fn from(_error: AllocFailed<T>) -> OpenFault {
         OpenFault::NoMemory
     }
 }

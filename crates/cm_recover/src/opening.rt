@@ -1,17 +1,18 @@
 //! Opens a file.
 
-ghost use Rattle.std.specs.Prelude.{◌≡◌, Err, IfOk, IfErr, OnOk};
+ghost use Rattle.std.specs.Prelude.{◌≡◌, ◌<◌, Err, IfOk, IfErr, OnOk};
+ghost use Rattle.std.specs.Thread.{IsSync};
 ghost use Rattle.cm_disk.specs.Disk.{IsDurable};
 ghost use Rattle.cm_verdict.specs.Verdict.{verdict};
 ghost use Rattle.cm_recover.specs.declared.fault.OpenFault.TheVariants as open_fault;
-ghost use Rattle.cm_recover.specs.Opening.{IsFaultIn};
+ghost use Rattle.cm_recover.specs.Judging.{Judges};
 ghost use Rattle.cm_recover.specs.Standing.{FollowsVerdict, IsStanding};
-ghost use Rattle.cm_layout.specs.Laws.{IsNewest};
-ghost use Rattle.cm_recover.specs.Opened.{SyncsAndReads, Opens, disk_after, MeetsDevice};
-ghost use Rattle.cm_recover.specs.Opened.{OpensThrough, StandsForSame};
+ghost use Rattle.cm_recover.specs.Opened.{OpensFile, SyncsAndReads};
 
 use crate::fault::OpenFault;
-use crate::standing::{StandingFile, read_standing};
+use crate::judging::{judge, judge_in_threads};
+use crate::row_record::RowRecord;
+use crate::standing::{StandingFile, read_standing_by};
 use crate::upgrading::upgrade;
 use cm_commit::{Committer, NotMade, others_are_told};
 use cm_disk::Disk;
@@ -20,6 +21,7 @@ use cm_record::words_tell_name;
 use cm_verdict::{found_is_framed, found_is_live, verdict_is_exact};
 use std::alloc::Global;
 use std::fmt::Debug;
+use std::thread::Threads;
 use thiserror::Error;
 
 /// Why a file wasn't opened, and its disk.
@@ -34,7 +36,12 @@ pub struct NotOpened<D> {
 }
 
 // Syncs all that the disk holds, and reads what it stands for.
-fn read_synced<D: Disk>(alloc: Global, disk: &mut D) -> Result<StandingFile, OpenFault>
+fn read_synced<J, D>(judge: J, alloc: Global, disk: &mut D) -> Result<StandingFile, OpenFault>
+where
+    J: FnOnce(Vec<RowRecord>) -> Vec<RowRecord>,
+    D: Disk,
+    requires callable { J.IsAlwaysCallable judge }
+    requires judges { Judges (J.post judge) }
     ensures standing { FollowsVerdict (IsStanding (D.view.contents disk.old)) result
         (verdict (D.view.contents disk.old)) }
     ensures stored { OnOk result (IsDurable (D.view.contents disk.new) (D.view.unsynced disk.new)) }
@@ -42,7 +49,7 @@ fn read_synced<D: Disk>(alloc: Global, disk: &mut D) -> Result<StandingFile, Ope
         disk.new (result ≡ Err open_fault.Device) }
 {
     disk.sync()?;
-    read_standing(alloc, disk)
+    read_standing_by(judge, alloc, disk)
 }
 
 /// Opens the cache of a file. It returns the accepted cache and the committer of its disk, both
@@ -56,16 +63,42 @@ fn read_synced<D: Disk>(alloc: Global, disk: &mut D) -> Result<StandingFile, Ope
 /// `Device` if the device failed, and `NoMemory` if an allocation failed. The disk is then handed
 /// back, and each image that a crash may leave is one that it might have left before the call, or
 /// stands for the same cache.
-pub fn open<D: Disk>(alloc: Global, mut disk: D) -> Result<(Front, Committer<D>), NotOpened<D>>
-    ensures opened { IfOk result (λ p. Opens (D.view.contents disk) p.0 p.1) }
-    ensures same { IfOk result
-        (λ p. StandsForSame (D.view.contents disk) (D.view.contents p.1.disk)) }
-    ensures newest { IfOk result (λ p. IsNewest (D.view.contents p.1.disk)) }
-    ensures stored { IfOk result
-        (λ p. IsDurable (D.view.contents p.1.disk) (D.view.unsynced p.1.disk)) }
-    ensures fault { IfErr result (λ e. IsFaultIn e.fault (verdict (D.view.contents disk))) }
-    ensures run { OpensThrough D.view disk
-        (disk_after result) (MeetsDevice result) }
+pub fn open<D: Disk>(alloc: Global, disk: D) -> Result<(Front, Committer<D>), NotOpened<D>>
+    ensures { OpensFile D.view disk result }
+{
+    open_by(|records| judge(alloc, records), alloc, disk)
+}
+
+/// Opens the cache of a file, as [`open`] does, in this many threads: one reads the rows and their
+/// records, and then each judges a part of the records. What is opened, and the first damage in the
+/// order of the rows, don't depend on their number.
+pub fn open_in_threads<R: Threads + Sync, D: Disk>(
+    rt: &R,
+    alloc: Global,
+    disk: D,
+    threads: usize,
+) -> Result<(Front, Committer<D>), NotOpened<D>>
+    requires { 0 < threads }
+    ensures { OpensFile D.view disk result }
+{
+    let judge = |records|
+        requires { IsSync R.row × (0 < threads) }
+    { judge_in_threads(rt, alloc, records, threads) };
+    open_by(judge, alloc, disk)
+}
+
+// Opens the cache of a file, with what judges its records.
+fn open_by<J, D>(
+    judge: J,
+    alloc: Global,
+    mut disk: D,
+) -> Result<(Front, Committer<D>), NotOpened<D>>
+where
+    J: FnOnce(Vec<RowRecord>) -> Vec<RowRecord>,
+    D: Disk,
+    requires callable { J.IsAlwaysCallable judge }
+    requires judges { Judges (J.post judge) }
+    ensures { OpensFile D.view disk result }
 {
     found_is_live();
     found_is_framed();
@@ -73,7 +106,7 @@ pub fn open<D: Disk>(alloc: Global, mut disk: D) -> Result<(Front, Committer<D>)
     words_tell_name();
     arenas_are_of_rows();
     others_are_told();
-    let file = match read_synced(alloc, &mut disk) {
+    let file = match read_synced(judge, alloc, &mut disk) {
         Ok(file) => file,
         Err(fault) => return Err(NotOpened { fault, disk }),
     };

@@ -1,34 +1,29 @@
 //! Reads what a file stands for.
 
-ghost use Rattle.std.specs.Prelude.{◌≡◌, ◌≤◌, ◌^◌, [], List, length, Err, IfOk};
-ghost use Rattle.cm_class.specs.declared.class_file.ClassFile.{ClassFile};
-ghost use Rattle.cm_record.specs.Layout.{limit};
-ghost use Rattle.cm_layout.specs.declared.row.Row.{Row as RowOf};
-ghost use Rattle.cm_layout.specs.declared.row.Row.TheVariants.{Class};
-ghost use Rattle.cm_layout.specs.Rows.{bare};
-ghost use Rattle.cm_layout.specs.Frames.{LiveRowsKeep};
+ghost use Rattle.std.specs.Prelude.{◌≡◌, ◌≢◌, ◌≤◌, ◌^◌, List, ℕ, Err, IfOk, IfErr};
 ghost use Rattle.cm_guards.specs.Calls.{Reads};
 ghost use Rattle.cm_commit.specs.GroupPlans.{whole_roots as whole_roots_of};
-ghost use Rattle.cm_verdict.specs.Faults.{at_slot};
-ghost use Rattle.cm_verdict.specs.Verdict.{classes_found, verdict};
+ghost use Rattle.cm_verdict.specs.Verdict.{verdict};
 ghost use Rattle.cm_recover.specs.declared.fault.OpenFault.TheVariants as open_fault;
-ghost use Rattle.cm_recover.specs.Standing.{FollowsVerdict, IsPlace, class_in_place, IsKeptClass};
-ghost use Rattle.cm_recover.specs.Standing.{IsRecorded, AreRecorded, bare_of, MayFollow};
-ghost use Rattle.cm_recover.specs.Standing.{row_found, IsStanding};
+ghost use Rattle.cm_recover.specs.Opening.{IsFaultIn};
+ghost use Rattle.cm_recover.specs.Judging.{Judges};
+ghost use Rattle.cm_recover.specs.Standing.{FollowsVerdict, IsStanding, IsReadOf, IsJudgedOf};
+ghost use Rattle.cm_recover.specs.Standing.{ReadsStanding};
 
 use crate::fault::OpenFault;
+use crate::judging::judge;
 use crate::reading::read_found;
-use crate::record_words::RecordWords;
-use crate::shared_rows::SharedRows;
+use crate::row_record::RowRecord;
+use crate::second_pass::SecondPass;
 use cm_commands::Prepared;
 use cm_commit::JournalEnd;
 use cm_disk::Disk;
-use cm_layout::{ClassRow, Row, record_at, root_at, root_bytes, roots_at};
-use cm_pool::{Geometry, Place};
-use cm_record::{Record, words_tell_name};
+use cm_layout::{Half, HalfHead, root_bytes, roots_at};
+use cm_pool::Geometry;
+use cm_record::Record;
 use cm_rows::LiveRows;
-use cm_verdict::{Damage, DefinedAt, found_is_live, read_record};
-use std::alloc::{AllocError, Global};
+use cm_verdict::{DefinedAt, found_is_live};
+use std::alloc::Global;
 use std::sync::Arc;
 
 /// What a file stands for: where its journal continues, with its sizes and the number of the last
@@ -55,144 +50,82 @@ fn whole_roots(geometry: Geometry, long: u64) -> u32
     (long.saturating_sub(roots_at(geometry)) / root_bytes(geometry)) as u32
 }
 
-// The class whose record these words are, if it keeps the class rules. It is spelled in the buffer.
-fn prepare_record(
-    alloc: Global,
-    buffer: &mut Vec<u8>,
-    words: &[u64],
-) -> Result<Option<Prepared>, AllocError>
-    requires { length words.now ≤ limit }
-    ensures { IfOk result (IsKeptClass words.now) }
+/// A file whose rows were found, and the words of their records taken.
+#[derive(Drop)]
+struct ReadRows {
+    pass: SecondPass,
+    found: LiveRows<DefinedAt>,
+    records: Vec<RowRecord>,
+    half: Half,
+    head: HalfHead,
+    /// Whether the gate of the other half is open.
+    other_open: bool,
+    /// The first slot after the groups.
+    end: u32,
+}
+
+// Finds the rows and takes the words of their records.
+fn read_rows<D: Disk>(alloc: Global, disk: &mut D) -> Result<ReadRows, OpenFault>
+    ensures rows { IfOk result (IsReadOf (D.view.contents disk.old)) }
+    ensures fault { IfErr result (λ e. IsFaultIn e (verdict (D.view.contents disk.old))) }
+    ensures reads { Reads D.view disk.old disk.new
+        (result ≡ Err open_fault.Device) }
 {
-    words_tell_name();
-    let Some(record) = read_record(alloc, buffer, words)? else {
-        return Ok(None);
+    found_is_live();
+    let found = read_found(alloc, disk)?;
+    let pass = SecondPass {
+        alloc,
+        geometry: found.geometry,
+        long: disk.len()?,
+        number: found.walk.number(),
     };
-    let class = Prepared::of_record(alloc, record)?;
-    Ok(Some(class))
+    let end = found.walk.end();
+    let rows = found.walk.into_book();
+    let records = pass.take_words(disk, &rows)?;
+    Ok(ReadRows {
+        pass,
+        found: rows,
+        records,
+        half: found.counts.half,
+        head: found.counts.head,
+        other_open: found.other_open,
+        end,
+    })
 }
 
-// A file whose rows were found, and whose records are read.
-#[derive(Clone, Copy)]
-struct SecondPass {
-    alloc: Global,
-    geometry: Geometry,
-    /// The file's length.
-    long: u64,
-    /// The number of the last command.
-    number: u64,
-}
-
-impl SecondPass {
-    // The class at a place, whose entry is in this slot.
-    fn class_at<D: Disk>(
-        &self,
-        disk: &mut D,
-        words: &mut RecordWords,
-        place: Place,
-        slot: u32,
-    ) -> Result<Prepared, OpenFault>
-        requires place { IsPlace self.now.geometry place }
-        requires long { self.now.long ≡ length (D.view.contents disk.old) }
-        ensures class { FollowsVerdict IsRecorded result (at_slot slot
-            (class_in_place self.now.geometry (D.view.contents disk.old) place)) }
-        ensures reads { Reads D.view disk.old
-            disk.new (result ≡ Err open_fault.Device) }
+impl ReadRows {
+    // What the file stands for, after the records were judged.
+    fn stand(self) -> Result<StandingFile, OpenFault>
+        requires { (contents : List ℕ) × IsJudgedOf contents self }
+        ensures standing { (contents : List ℕ) → IsJudgedOf contents self
+            → FollowsVerdict (IsStanding contents) result (verdict contents) }
+        ensures in_memory { IfErr result (λ e. e ≢ open_fault.Device) }
     {
-        if root_at(self.geometry, place.chunk.root + 1) > self.long {
-            return Err(OpenFault::Damaged {
-                what: Damage::Chunks,
-                slot,
-            });
-        }
-        let at = record_at(self.geometry, place);
-        words.read(disk, at, place.words as usize)?;
-        match prepare_record(self.alloc, &mut words.spelling, &words.words)? {
-            Some(class) => Ok(class),
-            None => Err(OpenFault::Damaged {
-                what: Damage::Record,
-                slot,
-            }),
-        }
-    }
-
-    // Takes a class, whose entry is in this slot, after the rows already taken.
-    fn take_class<D: Disk>(
-        &self,
-        disk: &mut D,
-        words: &mut RecordWords,
-        rows: &mut SharedRows,
-        row: ClassRow,
-        slot: u32,
-    ) -> Result<(), OpenFault>
-        requires follows { MayFollow self.now.geometry self.now.number rows.old (Class row tt) }
-        requires long { self.now.long ≡ length (D.view.contents disk.old) }
-        ensures taken { (before : List (RowOf ClassFile))
-            → AreRecorded self.now.geometry rows.old before
-            → FollowsVerdict (λ u. AreRecorded self.now.geometry rows.new) result
-            (row_found self.now.geometry (D.view.contents disk.old) before
-            (Class row (record { slot = slot }))) }
-        ensures reads { Reads D.view disk.old
-            disk.new (result ≡ Err open_fault.Device) }
-    {
-        self.geometry.invariant_holds();
-        let class = self.class_at(disk, words, row.place, slot)?;
-        if rows.has_class(row.loader, &class) {
-            return Err(OpenFault::Damaged {
-                what: Damage::ClassTwice,
-                slot,
-            });
-        }
-        rows.push_class(self.number, row, class)?;
-        Ok(())
-    }
-
-    // Takes a row, after those already taken.
-    fn take_row<D: Disk>(
-        &self,
-        disk: &mut D,
-        words: &mut RecordWords,
-        rows: &mut SharedRows,
-        row: &Row<DefinedAt>,
-    ) -> Result<(), OpenFault>
-        requires follows { MayFollow self.now.geometry self.now.number rows.old (bare_of row.now) }
-        requires long { self.now.long ≡ length (D.view.contents disk.old) }
-        ensures taken { (before : List (RowOf ClassFile))
-            → AreRecorded self.now.geometry rows.old before
-            → FollowsVerdict (λ u. AreRecorded self.now.geometry rows.new) result
-            (row_found self.now.geometry (D.view.contents disk.old) before row.now) }
-        ensures reads { Reads D.view disk.old
-            disk.new (result ≡ Err open_fault.Device) }
-    {
-        match row {
-            Row::Loader(row) => {
-                rows.push_loader(self.number, row);
-                Ok(())
-            }
-            Row::Class(row, at) => self.take_class(disk, words, rows, *row, at.slot),
-        }
-    }
-
-    // Takes all rows that were found.
-    fn take_all<D: Disk>(
-        &self,
-        disk: &mut D,
-        found: &LiveRows<DefinedAt>,
-    ) -> Result<SharedRows, OpenFault>
-        requires live { LiveRowsKeep self.now.geometry self.now.number [] (bare found.now.rows) }
-        requires long { self.now.long ≡ length (D.view.contents disk.old) }
-        ensures classes { FollowsVerdict (AreRecorded self.now.geometry) result
-            (classes_found self.now.geometry (D.view.contents disk.old) [] found.now.rows) }
-        ensures reads { Reads D.view disk.old
-            disk.new (result ≡ Err open_fault.Device) }
-    {
-        let mut words = RecordWords::new(self.alloc);
-        let mut rows = SharedRows::new(self.alloc, self.geometry)?;
-        let mut left = found.walk();
-        while let Some(row) = left.next() {
-            self.take_row(disk, &mut words, &mut rows, row)?;
-        }
-        Ok(rows)
+        let ReadRows {
+            pass,
+            found,
+            records,
+            half,
+            head,
+            other_open,
+            end,
+        } = self;
+        let rows = pass.take_all(&found, records)?;
+        let (rows, committed) = rows.into_books();
+        Ok(StandingFile {
+            journal: JournalEnd {
+                geometry: pass.geometry,
+                half,
+                end,
+                epoch: head.epoch,
+                other_open,
+                number: pass.number,
+            },
+            version: head.version,
+            roots: whole_roots(pass.geometry, pass.long),
+            rows,
+            committed,
+        })
     }
 }
 
@@ -202,35 +135,25 @@ impl SecondPass {
 /// `NotACache` or `Damaged` is the first fault of the contents. `Device` if the device failed and
 /// `NoMemory` if an allocation failed; these say nothing about the contents.
 pub fn read_standing<D: Disk>(alloc: Global, disk: &mut D) -> Result<StandingFile, OpenFault>
-    ensures standing { FollowsVerdict (IsStanding (D.view.contents disk.old)) result
-        (verdict (D.view.contents disk.old)) }
-    ensures reads { Reads D.view disk.old disk.new
-        (result ≡ Err open_fault.Device) }
+    ensures { ReadsStanding D.view disk.old disk.new result }
 {
-    found_is_live();
-    let found = read_found(alloc, disk)?;
-    let long = disk.len()?;
-    let pass = SecondPass {
-        alloc,
-        geometry: found.geometry,
-        long,
-        number: found.walk.number(),
-    };
-    let end = found.walk.end();
-    let rows = pass.take_all(disk, &found.walk.into_book())?;
-    let (rows, committed) = rows.into_books();
-    Ok(StandingFile {
-        journal: JournalEnd {
-            geometry: found.geometry,
-            half: found.counts.half,
-            end,
-            epoch: found.counts.head.epoch,
-            other_open: found.other_open,
-            number: pass.number,
-        },
-        version: found.counts.head.version,
-        roots: whole_roots(found.geometry, long),
-        rows,
-        committed,
-    })
+    read_standing_by(|records| judge(alloc, records), alloc, disk)
+}
+
+/// As [`read_standing`], with what judges the records.
+pub(crate) fn read_standing_by<J, D>(
+    judge: J,
+    alloc: Global,
+    disk: &mut D,
+) -> Result<StandingFile, OpenFault>
+where
+    J: FnOnce(Vec<RowRecord>) -> Vec<RowRecord>,
+    D: Disk,
+    requires callable { J.IsAlwaysCallable judge }
+    requires judges { Judges (J.post judge) }
+    ensures { ReadsStanding D.view disk.old disk.new result }
+{
+    let mut file = read_rows(alloc, disk)?;
+    file.records = judge(file.records);
+    file.stand()
 }

@@ -13,6 +13,8 @@ mod found;
 #[cfg(test)]
 mod halves;
 #[cfg(test)]
+mod in_threads;
+#[cfg(test)]
 mod long_names;
 #[cfg(test)]
 mod making_files;

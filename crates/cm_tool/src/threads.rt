@@ -28,8 +28,8 @@ use std::thread::Threads;
 
 /// Opens the cache on a disk, and runs a script on it as [`apply_script`](crate::apply_script)
 /// does, with the same replies: commands are run in the order of their lines, one after another.
-/// The classes that they define are prepared ahead by this many threads, and one more thread stores
-/// what is accepted.
+/// This many threads judge the file's records while it is opened, and then prepare the classes that
+/// the lines define ahead; one more thread stores what is accepted.
 ///
 /// Lines are read ahead only as far as the reader has them buffered, without waiting.
 ///
@@ -58,7 +58,7 @@ where
         (medium D.view) disk result.1
         (io (R.remaining reader.old) (W.contents writer.old) (W.contents writer.new))) }
 {
-    let (front, committer) = match cm_recover::open(alloc, disk) {
+    let (front, committer) = match cm_recover::open_in_threads(rt, alloc, disk, workers) {
         Ok(opened) => opened,
         Err(NotOpened { fault, disk }) => return (Err(ApplyFault::Open(fault)), Some(disk)),
     };

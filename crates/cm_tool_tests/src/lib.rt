@@ -1,4 +1,5 @@
-//! Tests of scripts: lines, readers, writers, failing disks, and what is reported about caches.
+//! Tests of scripts: lines, readers, writers, failing disks, region files, and what is reported
+//! about caches.
 #![tactic(auto)]
 
 #[cfg(test)]
@@ -15,6 +16,8 @@ mod maintenance_disks;
 mod maintenance_faults;
 #[cfg(test)]
 mod maintenance_writers;
+#[cfg(test)]
+mod region_files;
 #[cfg(test)]
 mod scripts;
 #[cfg(test)]

@@ -11,6 +11,7 @@ use cm_record::{Record, RecordFault};
 use cm_record_reading::{is_record, spell_class};
 use cm_record_rules::judge_words;
 use cm_rules::first_fault;
+use cm_words::WordBuf;
 use std::alloc::{AllocError, Global};
 
 // Whether a class keeps the class rules.
@@ -44,20 +45,19 @@ fn are_kept(alloc: Global, buffer: &mut Vec<u8>, words: &[u64]) -> Result<bool, 
     }
 }
 
-/// The record of these words, if they are that of a class that keeps the class rules. Its class is
-/// spelled in the buffer, whose contents aren't used afterwards: one buffer serves for any number
-/// of records.
+/// The record of these words, if they are that of a class that keeps the class rules; it keeps
+/// their buffer. Its class is spelled in `buffer`, whose contents aren't used afterwards: one
+/// serves for any number of records.
 pub fn read_record(
     alloc: Global,
     buffer: &mut Vec<u8>,
-    words: &[u64],
+    words: WordBuf,
 ) -> Result<Option<Record>, AllocError>
-    requires { length words.now ≤ limit }
-    ensures { IfOk result (IsKeptRecord words.now) }
+    requires { length words.words ≤ limit }
+    ensures { IfOk result (IsKeptRecord words.words) }
 {
-    if !are_kept(alloc, buffer, words)? {
+    if !are_kept(alloc, buffer, words.as_slice())? {
         return Ok(None);
     }
-    let record = Record::of_words(alloc, words)?;
-    Ok(Some(record))
+    Ok(Some(Record::of_words(words)))
 }

@@ -5,5 +5,5 @@ mod Filled
 mod Memory
 mod Sharing
 mod WordBytes
--- Words written one by one.
-pub use WordBytes.{length-word_bytes}
+-- Words written one by one, and read.
+pub use WordBytes.{length-word_bytes, length-packed_into, word_same, word_back}

@@ -3,9 +3,11 @@
 
 mod block;
 mod bytes;
+mod laws;
 mod word_buf;
 
 // A crate can name a buffer in a contract only if the types of its fields are exported.
 #[doc(hidden)]
 pub use block::{Base, Cells, Deed};
+pub use laws::bytes_tell_words;
 pub use word_buf::WordBuf;

@@ -36,7 +36,7 @@ impl Model for WordBuf {
 
 impl WordBuf {
     ghost use Rattle.cm_words.specs.Words.{words_of};
-    ghost use Rattle.cm_words.specs.Bytes.{word_bytes};
+    ghost use Rattle.cm_words.specs.Bytes.{word_bytes, packed_into};
 
     /// An empty buffer with room for `capacity` words. It never allocates more memory than that.
     pub fn with_capacity(alloc: Global, capacity: usize) -> Result<WordBuf, AllocError>
@@ -64,6 +64,18 @@ impl WordBuf {
         let mut copy = WordBuf::with_capacity(alloc, words.len())?;
         copy.extend_from_slice(words);
         Ok(copy)
+    }
+
+    /// The words of these bytes, eight bytes a word with the lowest first, in a buffer of exactly
+    /// their size.
+    pub fn from_bytes(alloc: Global, bytes: &[u8]) -> Result<WordBuf, AllocError>
+        requires whole { length bytes.now % 8 ≡ 0 }
+        ensures { IfOk result (λ b. b
+            ≡ words_of (packed_into (length bytes.now / 8) bytes.now) (length bytes.now / 8)) }
+    {
+        let mut words = WordBuf::with_capacity(alloc, bytes.len() / 8)?;
+        words.extend_from_bytes(bytes);
+        Ok(words)
     }
 
     /// How many words there are.
@@ -96,6 +108,21 @@ impl WordBuf {
     {
         self.cells.write_all(self.base, self.len, words);
         self.len += words.len();
+    }
+
+    /// Appends the words of these bytes, eight bytes a word with the lowest first.
+    pub fn extend_from_bytes(&mut self, bytes: &[u8])
+        requires whole { length bytes.now % 8 ≡ 0 }
+        requires room { length self.old.words + length bytes.now / 8 ≤ self.old.capacity }
+        ensures { self.new
+            ≡ words_of (self.old.words ++ packed_into (length bytes.now / 8) bytes.now)
+            self.old.capacity }
+    {
+        let mut rest = bytes;
+        while let Some((eight, after)) = rest.split_first_chunk::<8>() {
+            self.push(u64::from_le_bytes(*eight));
+            rest = after;
+        }
     }
 
     /// Replaces a word by another.

@@ -2,10 +2,10 @@
 
 use crate::scripts::run_script;
 use crate::status::{say, say_not_made};
-use cm_file_disk::{CreateError, FileDisk, OpenError, OpenedFile};
+use cm_file_disk::{CreateError, FileDisk, OpenError};
 use cm_maintenance::Status;
 use cm_pool::Geometry;
-use cm_recover::{FormatFault, OpenFault, bytes_read, format};
+use cm_recover::{FormatFault, OpenFault, format};
 use std::fs::{self, File, Files};
 use std::io;
 use std::sync::Wait;
@@ -44,14 +44,6 @@ fn give_up(rt: &(impl Eprint + Files<File = File>), path: &str, disk: FileDisk) 
     }
 }
 
-/// The disk of a cache's file, with as much of it in memory as is read: nothing after the last root
-/// that its sizes allow, however long the file is.
-pub fn disk_of(opened: Result<OpenedFile, OpenError>) -> Result<FileDisk, OpenError> {
-    let file = opened?;
-    let reach = bytes_read(file.beginning());
-    FileDisk::of_file(file, reach)
-}
-
 /// Runs the script on standard input on the cache in a file, with this many workers, and returns
 /// the status.
 pub fn apply_file<R>(rt: &R, path: &str, workers: usize) -> Status
@@ -59,7 +51,7 @@ where
     R: Input + Print + Eprint + Files<File = File> + AllocGlobal,
     R: Threads + Wait + Copy + Send + Sync + 'static,
 {
-    match disk_of(OpenedFile::open(rt, rt.alloc(), path)) {
+    match cm_region_file::open(rt, path) {
         Ok(disk) => {
             let (status, disk) = run_script(rt, disk, workers);
             if let Some(disk) = disk {

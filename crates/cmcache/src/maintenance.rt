@@ -1,8 +1,8 @@
 //! Files that are checked, listed and truncated.
 
-use crate::files::{disk_of, say_not_opened, tell_failure};
+use crate::files::{say_not_opened, tell_failure};
 use crate::status::fail;
-use cm_file_disk::{FileDisk, OpenError, OpenedFile};
+use cm_file_disk::{FileDisk, OpenError};
 use cm_maintenance::{NotReported, Status, check_to, list_to, trim_to};
 use cm_recover::is_older;
 use std::fs::{File, Files};
@@ -13,7 +13,7 @@ pub fn check_file(
     rt: &(impl Print + Eprint + Files<File = File> + AllocGlobal),
     path: &str,
 ) -> Status {
-    match disk_of(OpenedFile::open_read_only(rt, rt.alloc(), path)) {
+    match cm_region_file::open_read_only(rt, path) {
         Ok(disk) => {
             let told = check_to(rt.alloc(), &mut io::writer(rt), disk);
             status_of_told(rt, path, told)
@@ -28,9 +28,9 @@ fn disk_to_list(
     rt: &(impl Files<File = File> + AllocGlobal),
     path: &str,
 ) -> Result<FileDisk, OpenError> {
-    let mut disk = disk_of(OpenedFile::open_read_only(rt, rt.alloc(), path))?;
+    let mut disk = cm_region_file::open_read_only(rt, path)?;
     match is_older(rt.alloc(), &mut disk) {
-        Ok(true) => disk_of(OpenedFile::open(rt, rt.alloc(), path)),
+        Ok(true) => cm_region_file::open(rt, path),
         _ => Ok(disk),
     }
 }
@@ -55,7 +55,7 @@ pub fn trim_file(
     rt: &(impl Print + Eprint + Files<File = File> + AllocGlobal),
     path: &str,
 ) -> Status {
-    match disk_of(OpenedFile::open(rt, rt.alloc(), path)) {
+    match cm_region_file::open(rt, path) {
         Ok(disk) => {
             let told = trim_to(rt.alloc(), &mut io::writer(rt), disk);
             status_of_told(rt, path, told)

@@ -2,7 +2,9 @@
 
 ghost use Rattle.std.specs.Prelude.{◌≡◌};
 
-use cm_disk::{DeviceFault, Disk};
+use cm_disk::{DeviceFault, Disk, WordRange};
+use cm_words::WordBuf;
+use std::alloc::{AllocError, Global};
 
 /// The counts of a disk's calls.
 #[derive(Clone, Copy, Debug, PartialEq, Eq)]
@@ -65,6 +67,14 @@ impl<D: Disk> Disk for CountedDisk<D> {
 
     fn read(&mut self, at: u64, out: &mut [u8]) -> Result<(), DeviceFault> {
         self.disk.read(at, out)
+    }
+
+    fn take_words(
+        &mut self,
+        alloc: Global,
+        range: WordRange,
+    ) -> Result<Result<WordBuf, AllocError>, DeviceFault> {
+        self.disk.take_words(alloc, range)
     }
 
     fn write_at(&mut self, at: u64, bytes: &[u8]) -> Result<(), DeviceFault> {

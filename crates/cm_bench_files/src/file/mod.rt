@@ -8,7 +8,7 @@ mod timed;
 
 use crate::command::{Job, Task};
 pub use crate::file::counted::{CountedDisk, Counts};
-pub use crate::file::put::{make_file, open_file};
+pub use crate::file::put::make_file;
 use crate::file::report::{put_classes, read_classes};
 use anyhow::Result;
 use std::fs::{File, Files};

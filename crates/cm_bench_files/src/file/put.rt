@@ -5,9 +5,9 @@ use anyhow::Result;
 use cm_commands::{Command, Prepared, Refusal, prepare};
 use cm_commit::Progress;
 use cm_disk::Disk;
-use cm_file_disk::{FileDisk, OpenedFile};
+use cm_file_disk::FileDisk;
 use cm_pool::Geometry;
-use cm_recover::{NotOpened, bytes_read, format};
+use cm_recover::{NotOpened, format};
 use cm_session::{Session, open};
 use std::alloc::{AllocError, Global};
 use std::fs::{File, Files};
@@ -73,20 +73,13 @@ pub fn make_file(
     Ok(())
 }
 
-/// Opens a file, with as much of it in memory as is read of a cache.
-pub fn open_file(rt: &(impl Files<File = File> + AllocGlobal), path: &str) -> Result<FileDisk> {
-    let opened = OpenedFile::open(rt, rt.alloc(), path)?;
-    let reach = bytes_read(opened.beginning());
-    Ok(FileDisk::of_file(opened, reach)?)
-}
-
 /// Opens a file for storing. The calls of its disk are counted from here on, so they include the
 /// sync of opening.
 pub fn open_session(
     rt: &(impl Files<File = File> + AllocGlobal),
     path: &str,
 ) -> Result<Session<CountedDisk<FileDisk>>> {
-    let disk = open_file(rt, path)?;
+    let disk = cm_region_file::open(rt, path)?;
     session_of(rt.alloc(), disk)
 }
 

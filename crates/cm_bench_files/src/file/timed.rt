@@ -2,9 +2,7 @@
 
 use crate::command::Putting;
 use crate::file::counted::Counts;
-use crate::file::put::{
-    Stored, close, make_cache, open_file, open_session, prepare_all, store_all,
-};
+use crate::file::put::{Stored, close, make_cache, open_session, prepare_all, store_all};
 use crate::file::read::{Asked, find_all};
 use anyhow::Result;
 use cm_commands::Prepared;
@@ -59,7 +57,7 @@ pub fn read_timed(
     path: &str,
 ) -> Result<(FileDisk, u128)> {
     let start = Instant::now(rt)?;
-    let disk = open_file(rt, path)?;
+    let disk = cm_region_file::open(rt, path)?;
     Ok((disk, start.elapsed(rt)?.as_nanos()))
 }
 

@@ -7,7 +7,7 @@ mod running;
 mod scene;
 
 use crate::command::{Soaking, Threading};
-use crate::file::{CountedDisk, make_file, open_file};
+use crate::file::{CountedDisk, make_file};
 use crate::threads::defining::Turn;
 use crate::threads::mixing::{LOADERS, Mix};
 use crate::threads::report::{print_steps, print_sums, print_totals};
@@ -45,7 +45,7 @@ where
     R: Clock + Files<File = File> + Print + AllocGlobal,
     R: Threads + Wait + Copy + Send + Sync + 'static,
 {
-    let disk = open_file(rt, &soaking.path)?;
+    let disk = cm_region_file::open(rt, &soaking.path)?;
     let duties = mixes(rt, soaking)?;
     run_duties(rt, rt.alloc(), disk, scene, &duties)
 }
@@ -98,7 +98,7 @@ where
     R: Threads + Wait + Copy + Send + Sync + 'static,
 {
     make_file(rt, &threading.path, threading.geometry)?;
-    let disk = CountedDisk::new(open_file(rt, &threading.path)?);
+    let disk = CountedDisk::new(cm_region_file::open(rt, &threading.path)?);
     let duties = turns(rt.alloc(), threading)?;
     run_duties(rt, rt.alloc(), disk, scene, &duties)
 }

@@ -1,4 +1,4 @@
-use Rattle.std.proofs.Common.{◌≡◌, true, false, None, sym, ap, ◌∙◌}
+use Rattle.std.proofs.Common.{None, sym, ap, ◌∙◌}
 use Rattle.std.proofs.lemmas.Result.{IfOk-weaker}
 use Rattle.cm_record_layout.specs.Layout.{IsRecord}
 use Rattle.cm_rules.specs.Fault.{fault}
