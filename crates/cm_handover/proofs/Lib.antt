@@ -9,6 +9,7 @@ mod Classes
 mod Causes
 mod Making
 mod Fronts
+mod Changes
 -- Rows with classes, and the same rows with the words of their records.
 pub use Classes.{bare_words}
 -- The rows after two runs of entries, and an entry that was accepted.
