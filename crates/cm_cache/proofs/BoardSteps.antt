@@ -1,13 +1,14 @@
 -- Each step on the Board keeps its rule.
 -- For `NewBoard`, `Board`, `Poster`, `Reader`.
 use Rattle.std.proofs.Common.{◌≡◌, ◌≢◌, ℕ, zero, suc, ◌≤◌, Bool, true, false, true≢false, List, []}
-use Rattle.std.proofs.Common.{◌∷◌, set, refl, sym, ap, subst, ◌∙◌, ⊎_elim, arith}
+use Rattle.std.proofs.Common.{◌∷◌, ◌++◌, set, refl, sym, ap, subst, ◌∙◌, ⊎_elim, arith}
 use Rattle.std.specs.Prelude.{slice_index, slice_set}
 use mathlib.Core.Option.{some, some-ne-none, some-injective}
 use lib.ListN.{get_elem?}
 use Rattle.atomic_table.specs.Table.{Allows, Enters, Joins, opening, keeps}
 use Rattle.atomic_table.proofs.Lists.{at_set, at_snoc}
 use Rattle.cm_cache.specs.declared.board_view.BoardView.{BoardView}
+use Rattle.cm_cache.specs.declared.board_view.Load.TheVariants.{Number, Broken}
 use Rattle.cm_cache.specs.Board.{flag_of, is_set, poster, reader, hearing, FitsBoard, IsBoard}
 use Rattle.cm_cache.specs.Board.{Mine, HasPostedNumber, HasPostedBroken, HasEntered}
 use Rattle.cm_cache.specs.Board.{HasSeenNumber, HasSeenBroken, HasCompared}
@@ -213,7 +214,10 @@ sees_number slots id v held reads s h _ at _ = (
 )
   where
     w : BoardView
-    w = record v { number = slice_index s.words 0 }
+    w = record v {
+      number = slice_index s.words 0;
+      loads = v.loads ++ Number (slice_index s.words 0) ∷ [];
+    }
 
     mine : FitsBoard h.seat h.posted h.failed id v
     mine = h.each id v at
@@ -241,7 +245,10 @@ sees_broken slots id v held reads s h _ at _ = (
 )
   where
     w : BoardView
-    w = record v { broken = is_set (slice_index s.words 1) }
+    w = record v {
+      broken = is_set (slice_index s.words 1);
+      loads = v.loads ++ Broken (is_set (slice_index s.words 1)) ∷ [];
+    }
 
     mine : FitsBoard h.seat h.posted h.failed id v
     mine = h.each id v at

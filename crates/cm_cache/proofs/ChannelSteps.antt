@@ -14,7 +14,9 @@ use Rattle.cm_cache.specs.declared.channel.Message.{Message}
 use Rattle.cm_cache.specs.declared.channel.Message.TheVariants.{Group, End}
 use Rattle.cm_cache.specs.Channel.{entries_of, is_open, MayBeSent, InOrder, FitsChannel}
 use Rattle.cm_cache.specs.Channel.{IsRelayed, HasSent, HasReceived}
-use Rattle.cm_cache.specs.Channel.{IsAll, sender, receiver, both_ends, no_end, no_base}
+use Rattle.cm_cache.specs.Channel.{IsAll, IsBeginning, IsOrdered, sender, receiver, both_ends}
+use Rattle.cm_cache.specs.Channel.{no_end, no_base}
+use Rattle.cm_cache.specs.Channel.{witness, hearing}
 
 -- ---- messages in order
 
@@ -88,11 +90,20 @@ at_end (x ∷ xs) a b (suc j) n e = ap suc (at_end xs a b j n e)
 
 -- an end that may do nothing knows nothing that could be wrong
 idle_fits : (writer reader : ℕ) (base : Base) (sent got : List Message) (port : ℕ) (v : ChannelView)
-    → v.sends ≡ false → v.receives ≡ false → FitsChannel writer reader base sent got port v
-idle_fits writer reader base sent got port v s g = record {
+    → v.sends ≡ false → v.receives ≡ false → (rest : List Message) × (sent ≡ v.known ++ rest)
+    → FitsChannel writer reader base sent got port v
+idle_fits writer reader base sent got port v s g known = record {
   sends = λ may. absurd (off (sym s ∙ may));
   receives = λ may. absurd (off (sym g ∙ may));
+  known = known;
 }
+
+-- a beginning stays one as more is sent
+known_longer : (all known : List Message) (x : Message)
+    → (rest : List Message) × (all ≡ known ++ rest)
+    → (rest : List Message) × (all ++ x ∷ [] ≡ known ++ rest)
+known_longer all known x k =
+    (k.0 ++ x ∷ [], ap (λ l. l ++ x ∷ []) k.1 ∙ append_assoc known k.0 (x ∷ []))
 
 -- ---- steps
 
@@ -107,7 +118,11 @@ begins = record {
   ordered = tt;
   each = each_set (FitsChannel 0 0 no_base [] []) (both_ends no_base [] [] ∷ []) 0
       (both_ends no_base [] [])
-      (record { sends = λ _. (refl, refl, refl); receives = λ _. (refl, refl, refl) })
+      (record {
+        sends = λ _. (refl, refl, refl);
+        receives = λ _. (refl, refl, refl);
+        known = ([], refl);
+      })
       (λ j u other e. absurd (other (at_end [] _ u j (λ x. some-ne-none u (sym x)) e)));
 }
 
@@ -131,10 +146,12 @@ sends n port v x may is_on may_be items views _ h at = (
         (record {
           sends = λ _. (known.0, ap (λ l. l ++ x ∷ []) known.1, known.2);
           receives = mine.receives;
+          known = known_longer h.sent v.known x mine.known;
         })
         (λ j u other e. record {
           sends = λ p. absurd (other (((h.each j u e).sends p).0 ∙ sym known.0));
           receives = (h.each j u e).receives;
+          known = known_longer h.sent u.known x (h.each j u e).known;
         });
   },
   refl,
@@ -166,10 +183,12 @@ receives port v may x items views h at = (
         (record {
           sends = mine.sends;
           receives = λ _. (known.0, ap (λ l. l ++ x ∷ []) known.1, known.2);
+          known = mine.known;
         })
         (λ j u other e. record {
           sends = (h.each j u e).sends;
           receives = λ p. absurd (other (((h.each j u e).receives p).0 ∙ sym known.0));
+          known = (h.each j u e).known;
         });
   },
   (
@@ -204,6 +223,7 @@ splits port v base new items views h at = record {
       (λ was. record {
         sends = (old j u was).0;
         receives = λ p. absurd ((old j u was).1 p);
+        known = (old j u was).2;
       })
       (λ (is : r ≡ u). record {
         sends = λ p. absurd (off (ap (λ (y : ChannelView). y.sends) is ∙ p));
@@ -212,6 +232,7 @@ splits port v base new items views h at = record {
           ap (λ (y : ChannelView). y.received) (sym is) ∙ ap (λ (u : ChannelView). u.received) new,
           ap (λ (y : ChannelView). y.base) (sym is),
         );
+        known = ([], ap (λ (y : ChannelView). y.known ++ []) is);
       })
       (at_snoc vs r u j e);
 }
@@ -242,13 +263,18 @@ splits port v base new items views h at = record {
     Old j u =
         (u.sends ≡ true → (j ≡ h.writer) × (u.sent ≡ []) × (u.base ≡ base))
         × (u.receives ≢ true)
+        × ((rest : List Message) × ([] ≡ u.known ++ rest))
+
+    none_sent : h.sent ≡ []
+    none_sent = sym mine.1 ∙ ap (λ (u : ChannelView). u.sent) new
 
     old : (j : ℕ) (u : ChannelView) → get_elem? vs j ≡ some u → Old j u
     old = each_set Old views port l
-        ((λ _. (mine.0, ap (λ (u : ChannelView). u.sent) new, refl)), λ p. off p)
+        ((λ _. (mine.0, ap (λ (u : ChannelView). u.sent) new, refl)), (λ p. off p), ([], refl))
         (λ j u other e. (
           (λ p. absurd (other (((h.each j u e).sends p).0 ∙ sym mine.0))),
-          λ p. other (((h.each j u e).receives p).0 ∙ sym reads),
+          (λ p. other (((h.each j u e).receives p).0 ∙ sym reads)),
+          ((h.each j u e).known.0, sym none_sent ∙ (h.each j u e).known.1),
         ))
 
 pub joins : (port : ℕ) (v : ChannelView) (other : ℕ) (u : ChannelView) → v.sends ≡ true
@@ -263,7 +289,7 @@ joins port v other u may reads items views h at two at' = record {
   all = h.all;
   ordered = h.ordered;
   each = each_set (FitsChannel h.writer port h.base h.sent h.received) vs other no_end
-      (idle_fits h.writer port h.base h.sent h.received other no_end refl refl)
+      (idle_fits h.writer port h.base h.sent h.received other no_end refl refl (h.sent, refl))
       (λ j y apart e. now j y e apart);
 }
   where
@@ -286,11 +312,88 @@ joins port v other u may reads items views h at two at' = record {
         → FitsChannel h.writer port h.base h.sent h.received j y
     now = each_set
         (λ j y. j ≢ other → FitsChannel h.writer port h.base h.sent h.received j y) views port both
-        (λ _. record { sends = λ _. mine; receives = λ _. (refl, theirs.1, mine.2) })
+        (λ _. record {
+          sends = λ _. mine;
+          receives = λ _. (refl, theirs.1, mine.2);
+          known = (h.sent, refl);
+        })
         (λ j y _ e apart. record {
           sends = (h.each j y e).sends;
           receives = λ p. absurd (apart (((h.each j y e).receives p).0 ∙ sym theirs.0));
+          known = (h.each j y e).known;
         })
+
+-- a witness is made of the end that sends
+pub witnesses : (port : ℕ) (v : ChannelView) → v.sends ≡ true
+    → Forks IsRelayed port v v (witness v.sent)
+witnesses port v may items views h at = record {
+  writer = h.writer;
+  reader = h.reader;
+  base = h.base;
+  sent = h.sent;
+  received = h.received;
+  all = h.all;
+  ordered = h.ordered;
+  each = λ j u e. ⊎_elim
+      (λ was. each_set Fits views port v (h.each port v at) (λ i y other is. h.each i y is) j u was)
+      (λ (is : witness v.sent ≡ u). subst (Fits j) is
+      (idle_fits h.writer h.reader h.base h.sent h.received j (witness v.sent) refl refl
+      ([], sym sent_is ∙ sym (append-nil v.sent))))
+      (at_snoc (set views port v) (witness v.sent) u j e);
+}
+  where
+    Fits : ℕ → ChannelView → Type 0
+    Fits = FitsChannel h.writer h.reader h.base h.sent h.received
+
+    sent_is : v.sent ≡ h.sent
+    sent_is = ((h.each port v at).sends may).1
+
+-- a witness is joined to any end
+pub hears_witness : (port : ℕ) (v : ChannelView) (other : ℕ) (u : ChannelView)
+    → Merges IsRelayed port v other u (hearing v u) no_end
+hears_witness port v other u items views h at two at' = record {
+  writer = h.writer;
+  reader = h.reader;
+  base = h.base;
+  sent = h.sent;
+  received = h.received;
+  all = h.all;
+  ordered = h.ordered;
+  each = each_set Fits (set views port w) other no_end
+      (idle_fits h.writer h.reader h.base h.sent h.received other no_end refl refl (h.sent, refl))
+      (λ j y _ e. each_set Fits views port w
+      (record {
+        sends = mine.sends;
+        receives = mine.receives;
+        known = (h.each other u was).known;
+      })
+      (λ i z _ e'. h.each i z e') j y e);
+}
+  where
+    w : ChannelView
+    w = hearing v u
+
+    Fits : ℕ → ChannelView → Type 0
+    Fits = FitsChannel h.writer h.reader h.base h.sent h.received
+
+    mine : Fits port v
+    mine = h.each port v at
+
+    was : get_elem? views other ≡ some u
+    was = ⊎_elim (λ x. absurd (two x.0)) (λ x. x.1) (at_set views port other w u at')
+
+pub knows : (port : ℕ) (v : ChannelView) → v.sends ≡ true
+    → Learns IsRelayed port v (IsBeginning v)
+knows port v may items views h at =
+    let mine = h.each port v at in
+    (mine.known.0, (mine.sends may).1 ∙ mine.known.1)
+
+pub orders : (port : ℕ) (v : ChannelView) → v.sends ≡ true
+    → Learns IsRelayed port v (IsOrdered v)
+orders port v may items views h at =
+    let known = (h.each port v at).sends may in
+    subst (λ (t : Base × List Message). InOrder t.0 [] t.1)
+    (λ i. (sym known.2 i, sym known.1 i)) h.ordered
 
 pub totals : (port : ℕ) (v : ChannelView) → v.sends ≡ true → v.receives ≡ true
     → Learns IsRelayed port v (IsAll v)

@@ -7,6 +7,10 @@ use Rattle.std.proofs.lemmas.List.{length-append}
 use Rattle.std.proofs.lemmas.List.Elements.{All-nil, All-push}
 use Rattle.std.proofs.lemmas.List.Sums.{sum_by_push}
 use Rattle.cm_cache.specs.declared.board_view.Seen.{Seen}
+use Rattle.cm_cache.specs.declared.channel.Base.{Base}
+use Rattle.cm_cache.specs.declared.channel.Message.{Message}
+use Rattle.cm_cache.specs.Channel.{entries_of}
+use Rattle.cm_cache.specs.Handing.{IsLastHanded}
 use Rattle.cm_cache.specs.Shared.{PassState}
 use Rattle.cm_cache.specs.Closing.{TallyState, AreTaken}
 
@@ -14,44 +18,54 @@ pub map_same : {A : Type 0} (l : List A) → map (λ (x : A). x) l ≡ l
 map_same [] = refl
 map_same (x ∷ l) = ap (λ r. x ∷ r) (map_same l)
 
-pub none_taken : (old : TallyState) (posted : Seen) → AreTaken old posted [] old posted
-none_taken old posted = record {
+pub none_taken : (base : Base) (old : TallyState) (posted : Seen) (sent : List Message)
+    → AreTaken base old posted sent [] old posted sent
+none_taken base old posted sent = record {
   handed = refl;
   missing = omega arith;
   of_passes = omega arith;
   posted_is = refl;
   seen = All-nil _;
   marked = All-nil _;
+  sent_is = refl;
+  lasts = All-nil _;
 }
 
-pub one_taken : (old now new : TallyState) (posted then after : Seen) (passes : List PassState)
-    (p : PassState) → AreTaken old posted passes now then → new.handed ≡ now.handed
+pub one_taken : (base : Base) (old now new : TallyState) (posted then after : Seen)
+    (sent sent_then sent_after : List Message) (passes : List PassState) (p : PassState)
+    → AreTaken base old posted sent passes now then sent_then → new.handed ≡ now.handed
     → new.missing + 1 ≡ now.missing → new.of_passes ≡ now.of_passes + p.share → after ≡ then
     → p.seen.receipt.number ≤ then.receipt.number
-    → (p.marked ≡ true → then.broken ≡ true)
-    → AreTaken old posted (passes ++ p ∷ []) new after
-one_taken old now new posted then after passes p a handed missing share same seen marked = record {
-  handed = handed ∙ a.handed;
-  missing =
-      let before = a.missing in
-      let count = length-append passes (p ∷ []) in
-      omega (arith, missing, before, count);
-  of_passes =
-      let before = a.of_passes in
-      let sum = sum_by_push (λ (q : PassState). q.share) passes p in
-      omega (arith, share, before, sum);
-  posted_is = same ∙ a.posted_is;
-  seen = All-push (λ (q : PassState). q.seen.receipt.number ≤ posted.receipt.number) passes p
-      a.seen (subst (λ (s : Seen). p.seen.receipt.number ≤ s.receipt.number) a.posted_is seen);
-  marked = All-push (λ (q : PassState). q.marked ≡ true → posted.broken ≡ true) passes p
-      a.marked (λ m. sym (ap (λ (s : Seen). s.broken) a.posted_is) ∙ marked m);
-}
+    → (p.marked ≡ true → then.broken ≡ true) → sent_after ≡ sent_then
+    → IsLastHanded base (entries_of sent_then) p.last
+    → AreTaken base old posted sent (passes ++ p ∷ []) new after sent_after
+one_taken base old now new posted then after sent sent_then sent_after passes p a handed missing
+    share same seen marked same_sent last = record {
+      handed = handed ∙ a.handed;
+      missing =
+          let before = a.missing in
+          let count = length-append passes (p ∷ []) in
+          omega (arith, missing, before, count);
+      of_passes =
+          let before = a.of_passes in
+          let sum = sum_by_push (λ (q : PassState). q.share) passes p in
+          omega (arith, share, before, sum);
+      posted_is = same ∙ a.posted_is;
+      seen = All-push (λ (q : PassState). q.seen.receipt.number ≤ posted.receipt.number) passes p
+          a.seen (subst (λ (s : Seen). p.seen.receipt.number ≤ s.receipt.number) a.posted_is seen);
+      marked = All-push (λ (q : PassState). q.marked ≡ true → posted.broken ≡ true) passes p
+          a.marked (λ m. sym (ap (λ (s : Seen). s.broken) a.posted_is) ∙ marked m);
+      sent_is = same_sent ∙ a.sent_is;
+      lasts = All-push (λ (q : PassState). IsLastHanded base (entries_of sent) q.last) passes p
+          a.lasts (subst (λ l. IsLastHanded base (entries_of l) p.last) a.sent_is last);
+    }
 
-pub all_taken : (old new : TallyState) (posted now : Seen) (taken passes : List PassState)
-    → AreTaken old posted taken new now → map (λ (p : PassState). p) taken ≡ passes
-    → AreTaken old posted passes new now
-all_taken old new posted now taken passes a all =
-    subst (λ l. AreTaken old posted l new now) (sym (map_same taken) ∙ all) a
+pub all_taken : (base : Base) (old new : TallyState) (posted now : Seen) (sent after : List Message)
+    (taken passes : List PassState) → AreTaken base old posted sent taken new now after
+    → map (λ (p : PassState). p) taken ≡ passes
+    → AreTaken base old posted sent passes new now after
+all_taken base old new posted now sent after taken passes a all =
+    subst (λ l. AreTaken base old posted sent l new now after) (sym (map_same taken) ∙ all) a
 
 -- ---- once all came back
 

@@ -1,6 +1,9 @@
 mod ChannelSteps
 mod BoardSteps
 mod Tied
+mod Shown
+mod Stood
+mod Changed
 mod Stored
 mod Flushed
 mod Leaving

@@ -13,12 +13,14 @@ use Rattle.std.proofs.lemmas.List.{length-append, append-nil, take-append-drop, 
 use Rattle.cm_layout.specs.declared.row.Row.{Row}
 use Rattle.cm_group.specs.Groups.{Carried, Handed}
 use Rattle.cm_state.specs.Step.{Change}
-use Rattle.cm_state.specs.Entries.{change_of}
+use Rattle.cm_state.specs.State.{words_show, state_of}
+use Rattle.cm_state.specs.Entries.{AreCacheRows, change_of}
 use Rattle.cm_commit.specs.Offers.{rows_after_group}
 use Rattle.cm_front.specs.declared.front.Stranger.{Stranger}
 use Rattle.cm_front.specs.Front.{FrontState, IsFront}
 use Rattle.cm_front.specs.Accepting.{FrontAccepts, begun_by, carried, joined_by, with_learnt}
-use Rattle.cm_handover.specs.Ahead.{IsAhead, pending}
+use Rattle.cm_handover.specs.Ahead.{AllFollow, IsAhead, pending}
+use Rattle.cm_handover.specs.Folding.{LeadTo, FollowersLeadOn}
 use Rattle.cm_handover.specs.Handover.{AcceptedIsAhead, HandedIsAhead, LearntIsAhead}
 use Rattle.cm_handover.specs.Handover.{CommittedIsAhead, FailedIsAhead}
 use Rattle.cm_handover.specs.Carrying.{GroupMayFollow, HandedCarriesOn}
@@ -71,11 +73,28 @@ number_tied base h t =
     let count = length-append t.stored t.ahead_by in
     omega (arith, numbers, waits, all, count)
 
+-- what was sent leads from what was opened to the accepted cache
+pub sent_leads : FollowersLeadOn → (base : Base) (h : HandingState) → IsTied base h
+    → AllFollow base.sizes base.rows base.number (entries_of h.sent)
+    → LeadTo base.sizes base.rows base.number (entries_of h.sent)
+    (state_of words_show h.front.rows)
+sent_leads law base h t follow =
+    subst
+    (λ rows. LeadTo base.sizes base.rows base.number (entries_of h.sent)
+    (state_of words_show rows))
+    (sym (rows_tied base h t))
+    (law base.sizes base.rows base.number (entries_of h.sent) t.opened follow
+    (let last = t.is.numbers in
+    let number = number_tied base h t in
+    omega (arith, last, number)))
+
 -- ---- opened
 
 pub fresh_is_tied : (base : Base) (s : FrontState) → IsFresh base s
     → IsTied base (record { front = s; sent = [] })
 fresh_is_tied base s f = record {
+  opened =
+      subst (λ z. AreCacheRows words_show z base.number base.rows) f.sizes f.ahead.cache;
   is = f.is;
   sizes = f.sizes;
   stored = [];
@@ -149,6 +168,7 @@ module _ (base : Base) (h : HandingState) (change : Change (List ℕ)) (n : ℕ)
   pub still_tied : AcceptedIsAhead → HandedIsAhead
       → IsTied base (record { front = new; sent = h.sent ++ Group group ∷ [] })
   still_tied accepted handed = record {
+    opened = t.opened;
     is = o.is_new;
     sizes = ap (λ (f : FrontState). f.sizes) o.hands.after ∙ same_sizes;
     stored = t.stored;
@@ -196,6 +216,7 @@ pub learnt_is_tied : CommittedIsAhead → LearntIsAhead → (base : Base) (h : H
     (number : ℕ) → IsTied base h → number ≤ h.front.sealed → IsFront (with_learnt h.front number)
     → IsTied base (record { front = with_learnt h.front number; sent = h.sent })
 learnt_is_tied commits learns base h number t known is = record {
+  opened = t.opened;
   is = is;
   sizes = t.sizes;
   stored = t.stored ++ first;
@@ -280,6 +301,7 @@ pub failed_is_tied : FailedIsAhead → (base : Base) (h : HandingState) (broken 
     → IsTied base
     (record { front = record h.front { broken = broken; closed = closed }; sent = h.sent })
 failed_is_tied law base h broken closed t is = record {
+  opened = t.opened;
   is = is;
   sizes = t.sizes;
   stored = t.stored;

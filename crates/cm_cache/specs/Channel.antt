@@ -45,33 +45,67 @@ InOrder base before (End ∷ messages) = messages ≡ []
 -- ---- what an end knows
 
 abbrev pub sender : Base → List Message → ChannelView
-sender base sent =
-    record { sends = true; receives = false; base = base; sent = sent; received = [] }
+sender base sent = record {
+  sends = true;
+  receives = false;
+  base = base;
+  sent = sent;
+  received = [];
+  known = [];
+}
 
 abbrev pub receiver : Base → List Message → ChannelView
-receiver base received =
-    record { sends = false; receives = true; base = base; sent = []; received = received }
+receiver base received = record {
+  sends = false;
+  receives = true;
+  base = base;
+  sent = [];
+  received = received;
+  known = [];
+}
 
 abbrev pub both_ends : Base → List Message → List Message → ChannelView
-both_ends base sent received =
-    record { sends = true; receives = true; base = base; sent = sent; received = received }
+both_ends base sent received = record {
+  sends = true;
+  receives = true;
+  base = base;
+  sent = sent;
+  received = received;
+  known = [];
+}
 
 -- the base of a channel that belongs to no cache yet
 abbrev pub no_base : Base
 no_base = record { sizes = record { top = 3; roots = 1; slots = 256 }; rows = []; number = 0 }
 
+-- a witness of what had been sent by then
+abbrev pub witness : List Message → ChannelView
+witness sent = record {
+  sends = false;
+  receives = false;
+  base = no_base;
+  sent = [];
+  received = [];
+  known = sent;
+}
+
 -- what an end knows after it was joined to the other end
 abbrev pub no_end : ChannelView
-no_end = record { sends = false; receives = false; base = no_base; sent = []; received = [] }
+no_end = witness []
+
+-- what an end knows once it was joined to a witness
+abbrev pub hearing : ChannelView → ChannelView → ChannelView
+hearing v w = record v { known = w.known }
 
 -- ---- the rule
 
 -- One end sends, and knows all that was sent. One receives, and knows all that was received. Both
--- know what was opened.
+-- know what was opened. A witness knows a beginning of what was sent.
 pub record FitsChannel (writer reader : ℕ) (opened : Base) (all got : List Message) (port : ℕ)
     (v : ChannelView) : Type 0 where
   pub sends : v.sends ≡ true → (port ≡ writer) × (v.sent ≡ all) × (v.base ≡ opened)
   pub receives : v.receives ≡ true → (port ≡ reader) × (v.received ≡ got) × (v.base ≡ opened)
+  pub known : (rest : List Message) × (all ≡ v.known ++ rest)
 
 -- What was sent is in order. It is what was received, followed by what the channel holds.
 pub record IsRelayed (items : List Message) (views : List ChannelView) : Type 0 where
@@ -97,6 +131,12 @@ HasReceived v message after =
 
 abbrev pub IsAll : ChannelView → List Message → Type 0
 IsAll v items = (v.sent ≡ v.received ++ items) × InOrder v.base [] v.sent
+
+abbrev pub IsOrdered : ChannelView → List Message → Type 0
+IsOrdered v items = InOrder v.base [] v.sent
+
+abbrev pub IsBeginning : ChannelView → List Message → Type 0
+IsBeginning v items = (rest : List Message) × (v.sent ≡ v.known ++ rest)
 
 -- ---- which channel it is
 

@@ -12,6 +12,7 @@ use Rattle.cm_cache.specs.declared.board_view.Seen.{Seen}
 use Rattle.cm_cache.specs.declared.channel.Base.{Base}
 use Rattle.cm_cache.specs.declared.channel.Message.{Message}
 use Rattle.cm_cache.specs.Channel.{entries_of}
+use Rattle.cm_cache.specs.Handing.{IsLastHanded}
 use Rattle.cm_cache.specs.Shared.{PassState}
 
 -- ---- counting
@@ -23,16 +24,19 @@ pub record TallyState : Type 0 where
   pub missing : ℕ
   pub of_passes : ℕ
 
--- These passes came back: none has seen more on the Board than what was posted, and none is marked
--- unless a failure was.
-pub record AreTaken (old : TallyState) (posted : Seen) (passes : List PassState)
-    (new : TallyState) (now : Seen) : Type 0 where
+-- These passes came back: none has seen more on the Board than what was posted, none is marked
+-- unless a failure was, and the last change of each was sent.
+pub record AreTaken (base : Base) (old : TallyState) (posted : Seen) (sent : List Message)
+    (passes : List PassState) (new : TallyState) (now : Seen) (after : List Message)
+    : Type 0 where
   pub handed : new.handed ≡ old.handed
   pub missing : new.missing + length passes ≡ old.missing
   pub of_passes : new.of_passes ≡ old.of_passes + sum_by (λ (p : PassState). p.share) passes
   pub posted_is : now ≡ posted
   pub seen : All (λ (p : PassState). p.seen.receipt.number ≤ posted.receipt.number) passes
   pub marked : All (λ (p : PassState). p.marked ≡ true → posted.broken ≡ true) passes
+  pub sent_is : after ≡ sent
+  pub lasts : All (λ (p : PassState). IsLastHanded base (entries_of sent) p.last) passes
 
 -- ---- images
 
@@ -59,3 +63,9 @@ pub record LeavesBeginning (base : Base) (handed committed : ℕ) (contents : Li
   pub count : length all ≡ handed
   pub follow : AllFollow base.sizes base.rows base.number all
   pub images : EachImage contents unsynced (ShowsBeginning base all committed)
+
+-- The last change of each of these passes is among those commands, at its number.
+pub record HoldsLasts (base : Base) (handed committed : ℕ) (passes : List PassState)
+    (contents : List ℕ) (unsynced : Unsynced) : Type 0 where
+  pub leaves : LeavesBeginning base handed committed contents unsynced
+  pub lasts : All (λ (p : PassState). IsLastHanded base leaves.all p.last) passes

@@ -1,11 +1,12 @@
 -- What is accepted is sent at once: how the accepted cache matches what was sent.
 use Rattle.std.specs.Prelude.{◌≡◌, ℕ, ◌+◌, ◌||◌, nat_le, if◌then◌else◌, true, List, [], ◌∷◌, ◌++◌}
-use Rattle.std.specs.Prelude.{length, Some, Ok, refl}
+use Rattle.std.specs.Prelude.{length, Option, Some, None, Ok, refl}
 use Rattle.std.specs.Coded.{Coded, code_by, coded×, codes}
 use Rattle.cm_layout.specs.declared.row.Row.{Row}
 use Rattle.cm_group.specs.Groups.{Carried, Handed, IsGroup}
 use Rattle.cm_state.specs.Step.{Change}
-use Rattle.cm_state.specs.Entries.{change_of}
+use Rattle.cm_state.specs.State.{words_show}
+use Rattle.cm_state.specs.Entries.{AreCacheRows, change_of}
 use Rattle.cm_commit.specs.Offers.{filled, rows_after_group}
 use Rattle.cm_front.specs.Front.{FrontState, IsFront, front_code}
 use Rattle.cm_front.specs.Accepting.{FrontAnswers, HandsOut, with_learnt}
@@ -39,9 +40,10 @@ rows_sent base sent = rows_after_group base.rows (entries_of sent)
 abbrev pub number_sent : Base → List Message → ℕ
 number_sent base sent = base.number + length (entries_of sent)
 
--- Nothing that was accepted is held back. What was sent is what the cache has learnt to be durable,
--- followed by the entries by which it is ahead of that.
+-- What was opened are rows of a cache. Nothing that was accepted is held back. What was sent is
+-- what the cache has learnt to be durable, followed by the entries by which it is ahead of that.
 pub record IsTied (base : Base) (h : HandingState) : Type 0 where
+  pub opened : AreCacheRows words_show base.sizes base.number base.rows
   pub is : IsFront h.front
   pub sizes : h.front.sizes ≡ base.sizes
   pub stored : List Carried
@@ -96,3 +98,28 @@ pub record HandsOver (base : Base) (sent : List Message) (change : Change (List 
   pub new_is : new ≡ sent ++ Group group ∷ []
   pub change_is : change_of (rows_sent base sent) (filled entry) ≡ Some change
   pub number_is : n ≡ number_sent base sent + 1
+
+-- ---- what is known later
+
+-- all entries that were sent, with the one of this number: the change, on the rows after all before
+-- it
+pub record IsHanded (base : Base) (all : List Carried) (change : Change (List ℕ)) (n : ℕ)
+    : Type 0 where
+  pub before : List Carried
+  pub entry : Carried
+  pub rest : List Carried
+  pub all_are : all ≡ before ++ entry ∷ rest
+  pub change_is : change_of (rows_after_group base.rows before) (filled entry) ≡ Some change
+  pub number_is : n ≡ base.number + length before + 1
+
+-- the last change of a pass is among all entries that were sent, at its number
+abbrev pub IsLastHanded : Base → List Carried → Option (Change (List ℕ) × ℕ) → Type 0
+IsLastHanded base all None = Unit {0}
+IsLastHanded base all (Some last) = IsHanded base all last.0 last.1
+
+-- the last message that a witness shows is the last change of a pass
+abbrev pub IsShown : Base → Option (Change (List ℕ) × ℕ) → Option (List Message) → Type 0
+IsShown base None shown = Unit {0}
+IsShown base (Some last) None = ⊥
+IsShown base (Some last) (Some sent) =
+    (before : List Message) × HandsOver base before last.0 last.1 sent

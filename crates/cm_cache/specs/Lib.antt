@@ -1,6 +1,7 @@
 pub mod Channel
 pub mod Board
 pub mod Handing
+pub mod Holds
 pub mod Shared
 pub mod Storing
 pub mod Flushing

@@ -1,8 +1,10 @@
 //! The Board, on which the flusher writes how far commands are durable.
 
-ghost use Rattle.std.specs.Prelude.{◌≡◌, ◌≤◌, ◌⊎◌, [], true, false, IfOk};
+ghost use Rattle.std.specs.Prelude.{◌≡◌, ◌≤◌, ◌⊎◌, ◌++◌, ◌∷◌, [], true, false, IfOk};
 ghost use Rattle.cm_guards.specs.Guards.{EachImage};
-ghost use Rattle.cm_cache.specs.Board.{poster as poster_view, ShowsFrom};
+ghost use Rattle.cm_cache.specs.declared.board_view.Load.TheVariants as load;
+ghost use Rattle.cm_cache.specs.Board.{poster as poster_view, ShowsFrom, looked_at};
+ghost use Rattle.cm_cache.specs.Board.{HasLookedSince};
 
 use crate::board_rule::{
     BoardRule, Compares, Enters, Hears, PostsBroken, PostsNumber, SeesBroken, SeesNumber,
@@ -84,7 +86,7 @@ pub struct Board<K: Naming> {
 impl<K: Naming> Board<K> {
     /// A new reader of the Board.
     pub fn reader(&self) -> Reader<K>
-        ensures { result.broken ≡ false }
+        ensures { result.seen.broken ≡ false }
     {
         let (_, seat) = self.table.shared.load_new_seat::<Enters>(NUMBER);
         Reader {
@@ -168,8 +170,8 @@ impl<K: Naming> Poster<K> {
     /// Shows that a reader has seen no more than what was written.
     pub fn compare(&mut self, board: &Board<K>, reader: Reader<K>)
         ensures same { self.new ≡ self.old }
-        ensures number { reader.receipt.number ≤ self.old.receipt.number }
-        ensures broken { reader.broken ≡ true → self.old.broken ≡ true }
+        ensures number { reader.seen.receipt.number ≤ self.old.receipt.number }
+        ensures broken { reader.seen.broken ≡ true → self.old.broken ≡ true }
     {
         let Reader { seat, .. } = reader;
         let shared = &board.table.shared;
@@ -178,8 +180,8 @@ impl<K: Naming> Poster<K> {
     }
 }
 
-/// A reader of the Board. Contracts describe it by what it has seen, which the Board says or said:
-/// only a read changes it.
+/// A reader of the Board. Contracts describe it by what it has seen, which the Board says or said,
+/// and by all that it loaded: only a load changes these.
 #[derive(Drop)]
 pub struct Reader<K: Naming> {
     seat: Seat<(), BoardView>,
@@ -188,25 +190,24 @@ pub struct Reader<K: Naming> {
 
 impl<K: Naming> Model for Reader<K> {
     ghost use Rattle.std.specs.Prelude.{◌≡◌, [], false};
-    ghost use Rattle.cm_cache.specs.declared.board_view.Seen.{Seen};
-    ghost use Rattle.cm_cache.specs.Board.{seen_by};
+    ghost use Rattle.cm_cache.specs.Board.{ReaderState, reader_of};
 
-    ghost Value = { Seen };
+    ghost Value = { ReaderState };
 
-    ghost view = { λ r. seen_by r.seat.me.0 };
+    ghost view = { λ r. reader_of r.seat.me.0 };
 
     ghost invariant = { λ r.
         (r.seat.table_id ≡ K.board) × (r.seat.me.0.posts ≡ false) × (r.seat.me.1 ≡ []) };
 }
 
 impl<K: Naming> Reader<K> {
-    /// Reads the Board. Waits for nobody.
+    /// Reads the Board: the flag first, and then the number. Waits for nobody.
     pub fn look(&mut self, board: &Board<K>) -> Seen
-        ensures seen { self.new ≡ result }
-        ensures number { self.old.receipt.number ≤ result.receipt.number }
-        ensures broken { self.old.broken ≡ true → result.broken ≡ true }
+        ensures seen { self.new ≡ looked_at self.old result }
+        ensures number { self.old.seen.receipt.number ≤ result.receipt.number }
+        ensures broken { self.old.seen.broken ≡ true → result.broken ≡ true }
     {
-        // The flag comes first: once it is set, the number that is read next is the last one.
+        // Once the flag is set, the number that is read next is the last one.
         let broken = self.read_broken(board);
         let number = self.read_number(board);
         Seen {
@@ -217,18 +218,21 @@ impl<K: Naming> Reader<K> {
 
     fn read_number(&mut self, board: &Board<K>) -> u64
         ensures seen { self.new ≡ record {
-          receipt = record { number = result };
-          broken = self.old.broken;
+          seen = record { receipt = record { number = result }; broken = self.old.seen.broken };
+          loads = self.old.loads ++ load.Number result ∷ [];
         } }
-        ensures number { self.old.receipt.number ≤ result }
+        ensures number { self.old.seen.receipt.number ≤ result }
     {
         let shared = &board.table.shared;
         shared.load::<SeesNumber>(&mut self.seat, NUMBER)
     }
 
     fn read_broken(&mut self, board: &Board<K>) -> bool
-        ensures seen { self.new ≡ record { receipt = self.old.receipt; broken = result } }
-        ensures broken { self.old.broken ≡ true → result ≡ true }
+        ensures seen { self.new ≡ record {
+          seen = record { receipt = self.old.seen.receipt; broken = result };
+          loads = self.old.loads ++ load.Broken result ∷ [];
+        } }
+        ensures broken { self.old.seen.broken ≡ true → result ≡ true }
     {
         let shared = &board.table.shared;
         shared.load::<SeesBroken>(&mut self.seat, BROKEN) != 0
@@ -237,9 +241,10 @@ impl<K: Naming> Reader<K> {
     /// Waits until the Board says that all commands up to this number are durable, or that the
     /// device failed. Takes the Board's own lock, and no other.
     pub fn wait_for<R: Wait>(&mut self, rt: &R, board: &Board<K>, number: u64) -> Seen
-        ensures seen { self.new ≡ result }
-        ensures later { self.old.receipt.number ≤ result.receipt.number }
-        ensures broken { self.old.broken ≡ true → result.broken ≡ true }
+        ensures seen { self.new.seen ≡ result }
+        ensures looked { HasLookedSince self.old.loads result self.new.loads }
+        ensures later { self.old.seen.receipt.number ≤ result.receipt.number }
+        ensures broken { self.old.seen.broken ≡ true → result.broken ≡ true }
         ensures news { (number ≤ result.receipt.number) ⊎ (result.broken ≡ true) }
     {
         let mut guard = board.waiting.lock(rt);

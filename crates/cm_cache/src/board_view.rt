@@ -1,6 +1,7 @@
 //! What was seen on the Board, and what each of those who use it knows.
 
 use cm_group::Receipt;
+use std::collections::LinkedList;
 
 /// What was seen on the Board.
 #[derive(Clone, Copy, Debug, PartialEq, Eq)]
@@ -9,6 +10,14 @@ pub struct Seen {
     pub receipt: Receipt,
     /// The device failed, so no further receipt comes.
     pub broken: bool,
+}
+
+/// What one load of a word of the Board found. Only contracts read it; no value of it is made.
+pub enum Load {
+    /// The number of the newest receipt.
+    Number(u64),
+    /// Whether the device failed.
+    Broken(bool),
 }
 
 /// What one user of the Board knows. Only contracts read it; no value of it is made.
@@ -23,4 +32,6 @@ pub struct BoardView {
     pub heard_number: u64,
     /// Whether that one had seen that the device failed.
     pub heard_broken: bool,
+    /// All that it loaded as a reader, oldest first.
+    pub loads: LinkedList<Load>,
 }

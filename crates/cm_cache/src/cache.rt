@@ -10,7 +10,7 @@ ghost use Rattle.cm_commands.specs.Commands.{change_asked};
 ghost use Rattle.cm_commands.specs.declared.refusal.Refusal.TheVariants as refusal;
 ghost use Rattle.cm_cache.specs.Shared.{PassState, ReportsChange, most_passes};
 ghost use Rattle.cm_cache.specs.Starting.{Belongs, MayStart};
-ghost use Rattle.cm_cache.specs.Closing.{LeavesBeginning};
+ghost use Rattle.cm_cache.specs.Closing.{LeavesBeginning, HoldsLasts};
 
 use crate::board::Board;
 use crate::flusher::Flusher;
@@ -244,6 +244,8 @@ impl<K: Naming> Cache<K> {
             p.seen.receipt.number ≤ K.base.number + result.committed) passes.items }
         ensures images { LeavesBeginning K.base result.handed result.committed
             (D.view.contents result.disk) (D.view.unsynced result.disk) }
+        ensures lasts { HoldsLasts K.base result.handed result.committed passes.items
+            (D.view.contents result.disk) (D.view.unsynced result.disk) }
         ensures whole { D.view.failures result.disk ≡ K.failed
             → (result.committed ≡ result.handed)
             × All (λ (p : PassState). p.marked ≡ false) passes.items }
@@ -254,8 +256,8 @@ impl<K: Naming> Cache<K> {
             opened,
         } = self;
         let (outgoing, mut tally) = shared.into_inner().finish(rt, opened);
-        let (number, mut poster, disk) = flusher.join(rt).leave(outgoing);
-        tally.take_all(&mut poster, &board, passes);
+        let (number, mut poster, mut settled, disk) = flusher.join(rt).leave(outgoing);
+        tally.take_all(&mut poster, &board, &mut settled, passes);
         let (handed, missing, of_passes) = tally.count();
         Closed {
             handed,

@@ -36,4 +36,6 @@ pub struct ChannelView {
     pub sent: LinkedList<Message>,
     /// All that it received, oldest first.
     pub received: LinkedList<Message>,
+    /// A beginning of all that was sent, as a witness knows it.
+    pub known: LinkedList<Message>,
 }

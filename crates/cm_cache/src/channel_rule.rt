@@ -53,6 +53,43 @@ impl Lesson<Message, ChannelView> for Total {
     ghost fact = { IsAll };
 }
 
+/// What was sent is in order.
+pub(crate) struct Ordered;
+
+impl Lesson<Message, ChannelView> for Ordered {
+    ghost use Rattle.cm_cache.specs.Channel.{IsOrdered};
+
+    ghost fact = { IsOrdered };
+}
+
+/// What a witness knows is a beginning of what was sent.
+pub(crate) struct Beginning;
+
+impl Lesson<Message, ChannelView> for Beginning {
+    ghost use Rattle.cm_cache.specs.Channel.{IsBeginning};
+
+    ghost fact = { IsBeginning };
+}
+
+/// Makes a witness of what was sent by now, and joins it again.
+pub(crate) struct Witnessing;
+
+impl Split<ChannelView> for Witnessing {
+    ghost use Rattle.cm_cache.specs.Channel.{witness};
+
+    ghost left = { λ v. v };
+
+    ghost right = { λ v. witness v.sent };
+}
+
+impl Join<ChannelView> for Witnessing {
+    ghost use Rattle.cm_cache.specs.Channel.{hearing, no_end};
+
+    ghost both = { hearing };
+
+    ghost spent = { no_end };
+}
+
 /// Cuts a new channel into its two ends, and joins them again.
 pub(crate) struct Roles<K> {
     of: PhantomData<K>,

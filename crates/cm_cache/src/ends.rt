@@ -8,7 +8,9 @@ ghost use Rattle.cm_cache.specs.Channel.{both_ends, channel_of, entries_of, is_o
 ghost use Rattle.cm_cache.specs.Channel.{no_base, InOrder, MayBeSent};
 
 use crate::channel::{ChannelView, Message};
-use crate::channel_rule::{ChannelRule, Received, Roles, Sent, Total};
+use crate::channel_rule::{
+    Beginning, ChannelRule, Ordered, Received, Roles, Sent, Total, Witnessing,
+};
 use crate::naming::Naming;
 use crossbeam_channel::{Pass, RuledReceiver, RuledSender, bounded_with};
 use std::alloc::{AllocError, Global};
@@ -117,7 +119,74 @@ impl<K: Naming> Model for Incoming<K> {
         × (known_to o.pass ≡ receiver_view K.base (known_to o.pass).received) };
 }
 
+/// Shows what had been sent when it was made. Contracts describe it by that, oldest first.
+#[derive(Drop)]
+pub struct Witness<K: Naming> {
+    pass: Pass<Message, ChannelView>,
+    of: PhantomData<K>,
+}
+
+impl<K: Naming> Model for Witness<K> {
+    ghost use Rattle.std.specs.Prelude.{◌≡◌, [], List};
+    ghost use Rattle.cm_cache.specs.declared.channel.Message.{Message};
+    ghost use Rattle.cm_cache.specs.Channel.{known_to};
+    ghost use Rattle.cm_cache.specs.Channel.{witness as witness_view};
+
+    ghost Value = { List Message };
+
+    ghost view = { λ w. (known_to w.pass).known };
+
+    ghost invariant = { λ w.
+        (w.pass.table_id ≡ K.channel.table) × (w.pass.me.0.of ≡ K.channel.key)
+        × (w.pass.me.1 ≡ []) × (known_to w.pass ≡ witness_view (known_to w.pass).known) };
+}
+
+/// What stays of the channel once both ends are back in one thread. Contracts describe it by all
+/// that was sent, oldest first.
+#[derive(Drop)]
+pub struct Settled<K: Naming> {
+    sender: RuledSender<Message, ChannelView, ChannelRule>,
+    pass: Pass<Message, ChannelView>,
+    of: PhantomData<K>,
+}
+
+impl<K: Naming> Model for Settled<K> {
+    ghost use Rattle.std.specs.Prelude.{◌≡◌, true, List};
+    ghost use Rattle.crossbeam_channel.specs.Claims.{IsSeatAt};
+    ghost use Rattle.crossbeam_channel.specs.Ends.{sends_on};
+    ghost use Rattle.cm_cache.specs.declared.channel.Message.{Message};
+    ghost use Rattle.cm_cache.specs.Channel.{known_to, channel_of};
+
+    ghost Value = { List Message };
+
+    ghost view = { λ s. (known_to s.pass).sent };
+
+    ghost invariant = { λ s.
+        IsSeatAt (sends_on s.sender) s.pass × (channel_of (sends_on s.sender) ≡ K.channel)
+        × ((known_to s.pass).sends ≡ true) };
+}
+
 impl<K: Naming> Outgoing<K> {
+    /// Shows that what was sent is in order.
+    pub fn ordered(&mut self)
+        ensures same { self.new ≡ self.old }
+        ensures ordered { InOrder K.base [] self.old }
+    {
+        self.sender.learn_as::<Ordered>(&mut self.pass);
+    }
+
+    /// Shows later what was sent by now.
+    pub fn witness(&mut self) -> Witness<K>
+        ensures same { self.new ≡ self.old }
+        ensures sent { result ≡ self.old }
+    {
+        let pass = self.sender.another::<Witnessing>(&mut self.pass);
+        Witness {
+            pass,
+            of: PhantomData,
+        }
+    }
+
     /// Sends a message: a group that continues those that were sent, or the End, after which
     /// nothing is sent. Waits while the channel is full.
     pub fn send<R: Wait>(&mut self, rt: &R, message: Message)
@@ -150,7 +219,8 @@ impl<K: Naming> Outgoing<K> {
 
     /// Shows what both ends know, once they are back in one thread: what was sent is in order, what
     /// was received is a beginning of it, and if the End was received, all of it was.
-    pub fn settle(self, other: Incoming<K>)
+    pub fn settle(self, other: Incoming<K>) -> Settled<K>
+        ensures same { result ≡ self }
         ensures ordered { InOrder K.base [] self }
         ensures beginning { (rest : List Message) × (self ≡ other ++ rest) }
         ensures whole { is_open other ≡ false → self ≡ other }
@@ -163,6 +233,23 @@ impl<K: Naming> Outgoing<K> {
         let Incoming { pass: other, .. } = other;
         sender.absorb::<Roles<K>>(&mut pass, other);
         sender.learn_as::<Total>(&mut pass);
+        Settled {
+            sender,
+            pass,
+            of: PhantomData,
+        }
+    }
+}
+
+impl<K: Naming> Settled<K> {
+    /// Shows that what a witness knows is a beginning of what was sent.
+    pub fn hear(&mut self, witness: Witness<K>)
+        ensures same { self.new ≡ self.old }
+        ensures known { (rest : List Message) × (self.old ≡ witness ++ rest) }
+    {
+        let Witness { pass, .. } = witness;
+        self.sender.absorb::<Witnessing>(&mut self.pass, pass);
+        self.sender.learn_as::<Beginning>(&mut self.pass);
     }
 }
 

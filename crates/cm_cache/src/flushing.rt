@@ -11,7 +11,7 @@ ghost use Rattle.cm_handover.specs.Ahead.{AllFollow};
 
 use crate::board::{Board, Poster};
 use crate::channel::Message;
-use crate::ends::{Incoming, Outgoing};
+use crate::ends::{Incoming, Outgoing, Settled};
 use crate::naming::Naming;
 use crate::storing::store_group;
 use cm_commit::Committer;
@@ -336,17 +336,18 @@ impl<K: Naming, D: Disk> Ended<K, D> {
     }
 
     /// Returns the disk, once both ends of the channel are in one thread: with the number of the
-    /// last command that is committed, and the poster of the Board. Whatever a crash leaves of the
-    /// disk holds a beginning of what was sent.
-    pub(crate) fn leave(self, outgoing: Outgoing<K>) -> (u64, Poster<K>, D)
+    /// last command that is committed, the poster of the Board, and what stays of the channel.
+    /// Whatever a crash leaves of the disk holds a beginning of what was sent.
+    pub(crate) fn leave(self, outgoing: Outgoing<K>) -> (u64, Poster<K>, Settled<K>, D)
         requires over { self.over ≡ true }
         ensures least { K.base.number ≤ result.0 }
         ensures most { result.0 ≤ number_sent K.base outgoing }
         ensures follow { AllFollow K.base.sizes K.base.rows K.base.number (entries_of outgoing) }
-        ensures images { EachImage (D.view.contents result.2) (D.view.unsynced result.2)
+        ensures sent { result.2 ≡ outgoing }
+        ensures images { EachImage (D.view.contents result.3) (D.view.unsynced result.3)
             (ShowsBeginning K.base (entries_of outgoing) (result.0 - K.base.number)) }
         ensures says { result.1.receipt.number ≡ result.0 }
-        ensures whole { D.view.failures result.2 ≡ K.failed
+        ensures whole { D.view.failures result.3 ≡ K.failed
             → (result.0 ≡ number_sent K.base outgoing) × (result.1.broken ≡ false) }
     {
         let Ended {
@@ -355,10 +356,10 @@ impl<K: Naming, D: Disk> Ended<K, D> {
             poster,
             ..
         } = self;
-        outgoing.settle(incoming);
+        let settled = outgoing.settle(incoming);
         committer.images();
         let number = committer.number();
-        (number, poster, committer.into_disk())
+        (number, poster, settled, committer.into_disk())
     }
 
     /// Does nothing: its clause says what a crash leaves now, as [`Flushing::images`] does.

@@ -1,9 +1,13 @@
 //! The accepted cache, which sends each command that it accepts to the flusher at once.
 
 ghost use Rattle.std.specs.Prelude.{◌≡◌, ◌||◌, [], ◌∷◌, ◌++◌, true, IfOk, IfErr, OnErr};
+ghost use Rattle.cm_state.specs.State.{state_of, words_show};
 ghost use Rattle.cm_commands.specs.Commands.{change_asked};
 ghost use Rattle.cm_front.specs.Front.{IsFront};
 ghost use Rattle.cm_front.specs.Accepting.{IsReason};
+ghost use Rattle.cm_handover.specs.Ahead.{AllFollow};
+ghost use Rattle.cm_handover.specs.Folding.{LeadTo};
+ghost use Rattle.cm_cache.specs.Channel.{entries_of};
 ghost use Rattle.cm_cache.specs.declared.channel.Message.TheVariants.{End};
 ghost use Rattle.cm_cache.specs.Handing.{rows_sent, number_sent, IsFresh, TakesOut, HandsOver};
 ghost use Rattle.cm_cache.specs.Handing.{IsTied};
@@ -11,12 +15,14 @@ ghost use Rattle.cm_cache.specs.Handing.{SameMarks, with_receipt, with_seen};
 
 use crate::board_view::Seen;
 use crate::channel::Message;
-use crate::ends::Outgoing;
+use crate::ends::{Outgoing, Witness};
 use crate::naming::Naming;
 use cm_commands::{Command, Refusal};
 use cm_front::Front;
 use cm_group::{Group, Receipt};
-use cm_handover::{ahead_stays_ahead, groups_may_follow, handed_groups_are_next};
+use cm_handover::{
+    ahead_stays_ahead, groups_may_follow, handed_changes_lead_on, handed_groups_are_next,
+};
 use std::marker::Model;
 use std::sync::Wait;
 
@@ -65,6 +71,19 @@ impl<K: Naming> Handing<K> {
         ensures { IsTied K.base self.now }
     {
         let _front = &self.front; // reading a field brings the invariant
+    }
+
+    /// Changes nothing: its clauses say that each entry that was sent follows those before it, and
+    /// that the changes which they make lead from what was opened to the accepted cache.
+    pub fn fold(&mut self)
+        ensures same { self.new ≡ self.old }
+        ensures follow { AllFollow K.base.sizes K.base.rows K.base.number
+            (entries_of self.old.sent) }
+        ensures leads { LeadTo K.base.sizes K.base.rows K.base.number (entries_of self.old.sent)
+            (state_of words_show self.old.front.rows) }
+    {
+        handed_changes_lead_on();
+        self.outgoing.ordered();
     }
 
     /// Accepts a command and sends it, or does neither. Waits while the channel is full.
@@ -144,6 +163,14 @@ impl<K: Naming> Handing<K> {
         ahead_stays_ahead();
         self.front.close();
         self.front.invariant_holds();
+    }
+
+    /// Shows later what was sent by now.
+    pub fn witness(&mut self) -> Witness<K>
+        ensures same { self.new ≡ self.old }
+        ensures sent { result ≡ self.old.sent }
+    {
+        self.outgoing.witness()
     }
 
     /// Sends the End, and drops the accepted cache. Waits while the channel is full.

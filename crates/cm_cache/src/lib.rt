@@ -11,6 +11,7 @@ mod ends;
 mod flusher;
 mod flushing;
 mod handing;
+mod holds;
 mod last;
 mod naming;
 mod new_cache;
@@ -21,15 +22,17 @@ mod tally;
 
 pub use board::{Board, NewBoard, Poster, Reader};
 pub use board_rule::BoardRule;
-pub use board_view::{BoardView, Seen};
+pub use board_view::{BoardView, Load, Seen};
 pub use cache::{Cache, Closed};
 pub use channel::{Base, ChannelView, Message};
 pub use channel_rule::ChannelRule;
-pub use ends::{Incoming, NewChannel, Outgoing};
+pub use ends::{Incoming, NewChannel, Outgoing, Settled, Witness};
 pub use flusher::{Flusher, Over};
 pub use flushing::{Ended, Flushing};
 pub use handing::Handing;
 // A crate can name a pass in a contract only if the types of its fields are exported.
+#[doc(hidden)]
+pub use holds::Holds;
 #[doc(hidden)]
 pub use last::Last;
 pub use naming::Naming;

@@ -1,7 +1,7 @@
 //! What lies under the lock of a running cache, and the passes through which it is used.
 
 ghost use Rattle.std.specs.Prelude.{◌≡◌, ◌+◌, ◌<◌, ◌≤◌, ◌↔◌, [], true, false, IsOk, IfOk, IfErr};
-ghost use Rattle.std.specs.Prelude.{OnOk, OnErr, IfSome, None, length};
+ghost use Rattle.std.specs.Prelude.{OnOk, OnErr, IfSome, Some, None, length};
 ghost use Rattle.std.specs.Option.{option_map};
 ghost use Rattle.std.specs.Arc.{arc_value};
 ghost use Rattle.cm_group.specs.Groups.{IsRightRecord};
@@ -9,15 +9,20 @@ ghost use Rattle.cm_state.specs.State.{words_show, state_of, class_in};
 ghost use Rattle.cm_commands.specs.Commands.{change_asked};
 ghost use Rattle.cm_front.specs.Accepting.{IsReason};
 ghost use Rattle.cm_commands.specs.declared.refusal.Refusal.TheVariants as refusal;
+ghost use Rattle.cm_handover.specs.Ahead.{AllFollow};
+ghost use Rattle.cm_handover.specs.Folding.{LeadTo};
 ghost use Rattle.cm_cache.specs.Channel.{entries_of};
 ghost use Rattle.cm_cache.specs.Handing.{rows_sent, number_sent, HandsOver, SameMarks, with_seen};
-ghost use Rattle.cm_cache.specs.Handing.{IsTied};
-ghost use Rattle.cm_cache.specs.Shared.{counted, most_passes};
+ghost use Rattle.cm_cache.specs.Handing.{IsTied, IsShown};
+ghost use Rattle.cm_cache.specs.Board.{HasLookedSince};
+ghost use Rattle.cm_cache.specs.Holds.{hold_of, StoodAgainst};
+ghost use Rattle.cm_cache.specs.Shared.{counted, held, looked, most_passes};
 
 use crate::board::{Board, Reader};
 use crate::board_view::Seen;
-use crate::ends::Outgoing;
+use crate::ends::{Outgoing, Witness};
 use crate::handing::Handing;
+use crate::holds::Holds;
 use crate::last::Last;
 use crate::naming::Naming;
 use crate::tally::Tally;
@@ -35,8 +40,8 @@ pub const MOST_PASSES: u64 = 65_536;
 /// The right to change a running cache. It counts the commands that were accepted through it, and
 /// keeps what calls with it saw on the Board.
 ///
-/// Contracts describe it by these, and by the last change that was accepted through it, with its
-/// number.
+/// Contracts describe it by these, by the last change that was accepted through it, with its
+/// number, by all that it loaded from the Board, and by each hold of the lock.
 #[derive(Drop)]
 pub struct Pass<K: Naming> {
     share: Share<K>,
@@ -45,20 +50,30 @@ pub struct Pass<K: Naming> {
     seen: Seen,
     marked: bool,
     last: Last,
+    // shows later that the last change was sent
+    witness: Option<Witness<K>>,
+    holds: Holds,
 }
 
 impl<K: Naming> Model for Pass<K> {
     ghost use Rattle.std.specs.Prelude.{◌≡◌, true};
+    ghost use Rattle.cm_cache.specs.Handing.{IsShown};
     ghost use Rattle.cm_cache.specs.Shared.{PassState};
 
     ghost Value = { PassState };
 
-    ghost view = { λ p.
-        record { share = p.count; seen = p.seen; marked = p.marked; last = p.last.told } };
+    ghost view = { λ p. record {
+      share = p.count;
+      seen = p.seen;
+      marked = p.marked;
+      last = p.last.told;
+      loads = p.reader.loads;
+      holds = p.holds.all;
+    } };
 
     ghost invariant = { λ p.
-        (p.share.parts ≡ 1) × (p.share.amount ≡ p.count) × (p.reader ≡ p.seen)
-        × (p.marked ≡ true → p.seen.broken ≡ true) };
+        (p.share.parts ≡ 1) × (p.share.amount ≡ p.count) × (p.reader.seen ≡ p.seen)
+        × (p.marked ≡ true → p.seen.broken ≡ true) × IsShown K.base p.last.told p.witness };
 }
 
 impl<K: Naming> Pass<K> {
@@ -84,9 +99,9 @@ impl<K: Naming> Pass<K> {
         self.marked
     }
 
-    /// Reads the Board. Waits for nobody.
+    /// Reads the Board: the flag first, and then the number. Waits for nobody.
     pub fn look(&mut self, board: &Board<K>) -> Seen
-        ensures seen { self.new ≡ record self.old { seen = result } }
+        ensures seen { self.new ≡ looked self.old result }
         ensures number { self.old.seen.receipt.number ≤ result.receipt.number }
     {
         self.seen = self.reader.look(board);
@@ -106,6 +121,8 @@ impl<K: Naming> Pass<K> {
         ensures err { IfErr result
             (λ r. (r ≡ refusal.Unsure number) × (self.new.marked ≡ true)) }
         ensures kept { (self.new.share ≡ self.old.share) × (self.new.last ≡ self.old.last) }
+        ensures holds { self.new.holds ≡ self.old.holds }
+        ensures looked { HasLookedSince self.old.loads self.new.seen self.new.loads }
         ensures later { self.old.seen.receipt.number ≤ self.new.seen.receipt.number }
     {
         self.seen = self.reader.wait_for(rt, board, number);
@@ -116,21 +133,32 @@ impl<K: Naming> Pass<K> {
         Err(Refusal::Unsure(number))
     }
 
-    // Takes it apart: its share of the book, how many commands that is, and its reader of the
-    // Board.
-    pub(crate) fn into_parts(self) -> (Share<K>, u64, Reader<K>)
+    // Keeps the last change that was accepted through it, with the witness that it was sent.
+    fn keep(&mut self, last: Last, witness: Witness<K>)
+        requires { IsShown K.base last.told (Some witness) }
+        ensures { self.new ≡ record self.old { last = last.told } }
+    {
+        self.last = last;
+        self.witness = Some(witness);
+    }
+
+    // Takes it apart: its share of the book, how many commands that is, its reader of the Board,
+    // and the witness of its last change.
+    pub(crate) fn into_parts(self) -> (Share<K>, u64, Reader<K>, Option<Witness<K>>)
         ensures share { (result.0.parts ≡ 1) × (result.0.amount ≡ self.share) }
         ensures count { result.1 ≡ self.share }
-        ensures reader { result.2 ≡ self.seen }
+        ensures reader { result.2.seen ≡ self.seen }
         ensures marked { self.marked ≡ true → self.seen.broken ≡ true }
+        ensures shown { IsShown K.base self.last result.3 }
     {
         let Pass {
             share,
             count,
             reader,
+            witness,
             ..
         } = self;
-        (share, count, reader)
+        (share, count, reader, witness)
     }
 }
 
@@ -197,6 +225,18 @@ impl<K: Naming> Shared<K> {
         self.handing.state();
     }
 
+    /// Changes nothing: its clauses say that each command that was sent follows those before it,
+    /// and that the map of the accepted cache is the fold of them all over what was opened.
+    pub fn fold(&mut self)
+        ensures same { self.new ≡ self.old }
+        ensures follow { AllFollow K.base.sizes K.base.rows K.base.number
+            (entries_of self.old.sent) }
+        ensures leads { LeadTo K.base.sizes K.base.rows K.base.number (entries_of self.old.sent)
+            (state_of words_show self.old.front.rows) }
+    {
+        self.handing.fold();
+    }
+
     /// The record of the class of a name in the loader of a name, as accepted, whether or not it is
     /// durable.
     pub fn find(
@@ -245,6 +285,8 @@ impl<K: Naming> Shared<K> {
             seen,
             marked: false,
             last: Last::none(),
+            witness: None,
+            holds: Holds::none(),
         })
     }
 
@@ -262,15 +304,18 @@ impl<K: Naming> Shared<K> {
     ) -> Result<u64, Refusal>
         ensures accepted { IfOk result
             (λ n. HandsOver K.base self.old.sent (change_asked command.entry) n self.new.sent) }
-        ensures counted { IfOk result
-            (λ n. pass.new ≡ counted pass.old (change_asked command.entry) n) }
+        ensures counted { IfOk result (λ n. pass.new
+            ≡ counted (held pass.old seen self.old.front) (change_asked command.entry) n) }
         ensures refused { OnErr result
             ((self.new ≡ record self.old { front = with_seen self.old.front seen })
-            × (pass.new ≡ pass.old)) }
+            × (pass.new ≡ held pass.old seen self.old.front)) }
         ensures reason { IfErr result (IsReason self.new.front (change_asked command.entry)) }
+        ensures stood { IfErr result
+            (StoodAgainst (hold_of seen self.old.front) (change_asked command.entry)) }
         ensures noticed { SameMarks (with_seen self.old.front seen) self.new.front }
         ensures passes { self.new.made ≡ self.old.made }
     {
+        self.note(pass, seen);
         self.handing.notice(seen);
         self.book.audit(&mut pass.share);
         let next = self.handing.front().number() + 1;
@@ -281,8 +326,15 @@ impl<K: Naming> Shared<K> {
         };
         self.book.add(&mut pass.share, 1);
         pass.count += 1;
-        pass.last = last;
+        pass.keep(last, self.handing.witness());
         Ok(number)
+    }
+
+    // Notes that the lock is held for a change through this pass.
+    fn note(&self, pass: &mut Pass<K>, seen: Seen)
+        ensures { pass.new ≡ held pass.old seen self.now.front }
+    {
+        pass.holds = pass.holds.one_more(&seen, self.handing.front());
     }
 
     /// Sends the End, and drops the accepted cache. What stays is the channel's end, and the tally,

@@ -1,10 +1,14 @@
 //! Counts what was accepted, as the passes come back.
 
-ghost use Rattle.std.specs.Prelude.{◌≡◌, ◌+◌, ◌≤◌, true};
+ghost use Rattle.std.specs.Prelude.{◌≡◌, ◌+◌, ◌≤◌, ℕ, true, List, Option};
+ghost use Rattle.cm_state.specs.Step.{Change};
 ghost use Rattle.cm_cache.specs.Shared.{most_passes};
+ghost use Rattle.cm_cache.specs.Channel.{entries_of};
+ghost use Rattle.cm_cache.specs.Handing.{IsLastHanded, IsShown};
 ghost use Rattle.cm_cache.specs.Closing.{AreTaken};
 
 use crate::board::{Board, Poster};
+use crate::ends::{Settled, Witness};
 use crate::naming::Naming;
 use crate::shared::Pass;
 use std::marker::Model;
@@ -55,8 +59,14 @@ impl<K: Naming> Tally<K> {
     }
 
     /// Counts the commands of a pass that comes back, and shows that it has seen no more than what
-    /// the Board says.
-    fn take(&mut self, poster: &mut Poster<K>, board: &Board<K>, pass: Pass<K>)
+    /// the Board says, and that its last change was sent.
+    fn take(
+        &mut self,
+        poster: &mut Poster<K>,
+        board: &Board<K>,
+        settled: &mut Settled<K>,
+        pass: Pass<K>,
+    )
         requires parts { K.parts ≡ most_passes }
         ensures handed { self.new.handed ≡ self.old.handed }
         ensures missing { self.new.missing + 1 ≡ self.old.missing }
@@ -64,10 +74,13 @@ impl<K: Naming> Tally<K> {
         ensures poster { poster.new ≡ poster.old }
         ensures seen { pass.seen.receipt.number ≤ poster.old.receipt.number }
         ensures marked { pass.marked ≡ true → poster.old.broken ≡ true }
+        ensures settled { settled.new ≡ settled.old }
+        ensures last { IsLastHanded K.base (entries_of settled.old) pass.last }
     {
-        let (share, count, reader) = pass.into_parts();
+        let (share, count, reader, witness) = pass.into_parts();
         self.add(share, count);
         poster.compare(board, reader);
+        hear(settled, witness);
     }
 
     fn add(&mut self, share: Share<K>, count: u64)
@@ -89,13 +102,15 @@ impl<K: Naming> Tally<K> {
         &mut self,
         poster: &mut Poster<K>,
         board: &Board<K>,
+        settled: &mut Settled<K>,
         passes: Vec<Pass<K>>,
     )
         requires parts { K.parts ≡ most_passes }
-        ensures { AreTaken self.old poster.old passes.items self.new poster.new }
+        ensures { AreTaken K.base self.old poster.old settled.old passes.items
+            self.new poster.new settled.new }
     {
         for pass in passes {
-            self.take(poster, board, pass);
+            self.take(poster, board, settled, pass);
         }
     }
 
@@ -111,5 +126,17 @@ impl<K: Naming> Tally<K> {
     {
         self.book.audit(&mut self.all);
         (self.handed, self.missing, self.of_passes)
+    }
+}
+
+// Shows that the last change of a pass was sent.
+fn hear<K: Naming>(settled: &mut Settled<K>, witness: Option<Witness<K>>)
+    ensures same { settled.new ≡ settled.old }
+    ensures last { (last : Option (Change (List ℕ) × ℕ)) → IsShown K.base last witness
+        → IsLastHanded K.base (entries_of settled.old) last }
+{
+    match witness {
+        Some(witness) => settled.hear(witness),
+        None => {}
     }
 }

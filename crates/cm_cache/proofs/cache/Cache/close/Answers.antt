@@ -1,6 +1,9 @@
 use Rattle.std.proofs.Common.{◌-◌, sym, subst, arith}
 use Rattle.cm_guards.specs.Guards.{EachImage}
+use Rattle.std.specs.List.{All}
 use Rattle.cm_cache.specs.Channel.{entries_of}
+use Rattle.cm_cache.specs.Handing.{IsLastHanded}
+use Rattle.cm_cache.specs.Shared.{PassState}
 use Rattle.cm_cache.specs.Closing.{ShowsBeginning}
 use Rattle.cm_cache.proofs.Counted.{within, none_marked}
 use Rattle.cm_cache.proofs.cache.Cache.close.Goals as goal
@@ -24,6 +27,31 @@ returns-clause-whole g c = λ same.
       none_marked _ _ c.take_all.ensures.marked all.1,
     )
 
+pub returns-clause-lasts : goal.returns-clause-lasts
+returns-clause-lasts g c =
+    let view = g.D.Disk.view in
+    let left = c.leave-number in
+    record {
+      leaves = record {
+        all = entries_of c.finish-outgoing.result.0;
+        count =
+            let sent = c.finish-outgoing.ensures.handed in
+            let taken = c.take_all.ensures.handed in
+            let handed = c.count-handed.ensures.handed in
+            omega (arith, sent, taken, handed);
+        follow = left.ensures.follow;
+        images = subst
+            (λ n. EachImage (view.contents left.result.3) (view.unsynced left.result.3)
+            (ShowsBeginning g.K.Naming.base (entries_of c.finish-outgoing.result.0)
+            (left.result.0 - n)))
+            (sym c.args.self.opened_is) left.ensures.images;
+      };
+      lasts = subst
+          (λ l. All (λ (p : PassState). IsLastHanded g.K.Naming.base (entries_of l) p.last)
+          c.args.passes.items)
+          left.ensures.sent c.take_all.ensures.lasts;
+    }
+
 pub returns-clause-images : goal.returns-clause-images
 returns-clause-images g c =
     let view = g.D.Disk.view in
@@ -37,7 +65,7 @@ returns-clause-images g c =
           omega (arith, sent, taken, handed);
       follow = left.ensures.follow;
       images = subst
-          (λ n. EachImage (view.contents left.result.2) (view.unsynced left.result.2)
+          (λ n. EachImage (view.contents left.result.3) (view.unsynced left.result.3)
           (ShowsBeginning g.K.Naming.base (entries_of c.finish-outgoing.result.0)
           (left.result.0 - n)))
           (sym c.args.self.opened_is) left.ensures.images;

@@ -20,3 +20,15 @@ returns-clause-whole g c =
     (ap (λ (v : ChannelView). v.sent) c.absorb.ensures.rule ∙ c.self.view_is)
     (ap (λ (v : ChannelView). v.received) c.absorb.ensures.rule ∙ c.other.view_is)
     c.learn_as.ensures.rule.1
+
+pub invariant_of-result : goal.invariant_of-result
+invariant_of-result g c = (
+  c.learn_as.ensures.channel.0,
+  c.self.invariant.1,
+  ap (λ (v : ChannelView). v.sends) (c.learn_as.ensures.channel.2 ∙ c.absorb.ensures.rule),
+)
+
+pub returns-clause-same : goal.returns-clause-same
+returns-clause-same g c =
+    ap (λ (v : ChannelView). v.sent) (c.learn_as.ensures.channel.2 ∙ c.absorb.ensures.rule)
+    ∙ c.self.view_is

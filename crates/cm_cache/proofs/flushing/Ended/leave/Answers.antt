@@ -7,7 +7,7 @@ use Rattle.cm_cache.proofs.Leaving.{sent_follow, shows_sent}
 use Rattle.cm_cache.proofs.flushing.Ended.leave.Goals as goal
 
 pub returns-clause-follow : goal.returns-clause-follow
-returns-clause-follow g c = sent_follow _ _ c.settle.ensures.ordered
+returns-clause-follow g c = sent_follow _ _ c.settle-settled.ensures.ordered
 
 pub returns-clause-images : goal.returns-clause-images
 returns-clause-images g c =
@@ -15,7 +15,7 @@ returns-clause-images g c =
     let base = g.K.Naming.base in
     let sent = entries_of c.args.outgoing in
     let i = c.self.invariant in
-    let all = c.settle.ensures.whole
+    let all = c.settle-settled.ensures.whole
     (i.ended (ap (λ (e : EndedState _). e.over) c.self.view_is ∙ c.requires.over)) in
     subst
     (λ n. EachImage (view.contents c.into_disk.result) (view.unsynced c.into_disk.result)

@@ -1,6 +1,6 @@
 use Rattle.std.proofs.Common.{ap, sym, ◌∙◌}
-use Rattle.cm_cache.specs.Handing.{HandingState, rows_sent, number_sent}
-use Rattle.cm_cache.proofs.Tied.{rows_tied, number_tied}
+use Rattle.cm_cache.specs.Handing.{HandingState, rows_sent}
+use Rattle.cm_cache.proofs.Tied.{rows_tied}
 use Rattle.cm_cache.proofs.handing.Handing.front.Goals as goal
 
 pub returns-clause-rows : goal.returns-clause-rows

@@ -1,5 +1,4 @@
 -- `of` makes a value of no bytes, whose ghost field is what the references show.
-use Prim.Native.Nat.{ℕ}
 use mathlib.Core.Path.{refl, sym, subst}
 use mathlib.Core.List.{List, [], ◌∷◌, ◌++◌}
 use Rattle.std.specs.Prelude.{Some}

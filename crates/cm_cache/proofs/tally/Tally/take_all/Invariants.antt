@@ -3,4 +3,5 @@ use Rattle.cm_cache.proofs.tally.Tally.take_all.Given as goal
 
 abbrev pub invariant-loop-pass : goal.invariant-loop-pass
 invariant-loop-pass g l =
-    AreTaken l.initial.self l.initial.poster l.yielded l.self l.poster
+    AreTaken g.K.Naming.base l.initial.self l.initial.poster l.initial.settled l.yielded l.self
+    l.poster l.settled

@@ -1,0 +1,17 @@
+use Rattle.std.proofs.Common.{[], List, ap, sym, subst, ◌∙◌}
+use Rattle.cm_cache.specs.declared.channel.Base.{Base}
+use Rattle.cm_cache.specs.declared.channel.ChannelView.{ChannelView}
+use Rattle.cm_cache.specs.declared.channel.Message.{Message}
+use Rattle.cm_cache.specs.Channel.{InOrder}
+use Rattle.cm_cache.proofs.ChannelSteps.{orders}
+use Rattle.cm_cache.proofs.ends.Outgoing.ordered.Goals as goal
+
+pub learn_as-requires-clause-rule : goal.learn_as-requires-clause-rule
+learn_as-requires-clause-rule g c =
+    orders _ _ (ap (λ (v : ChannelView). v.sends) c.self.invariant.2)
+
+pub returns-clause-ordered : goal.returns-clause-ordered
+returns-clause-ordered g c =
+    subst (λ (t : Base × List Message). InOrder t.0 [] t.1)
+    (λ i. (ap (λ (v : ChannelView). v.base) c.self.invariant.2 i, c.self.view_is i))
+    c.learn_as.ensures.rule.1
