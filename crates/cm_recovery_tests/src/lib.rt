@@ -9,6 +9,8 @@ mod disks;
 #[cfg(test)]
 mod file_samples;
 #[cfg(test)]
+mod file_use;
+#[cfg(test)]
 mod found;
 #[cfg(test)]
 mod halves;

@@ -1,0 +1,7 @@
+mod Sums
+mod Rows
+mod Small
+mod Keys
+mod Lists
+mod Aligned
+mod Measured
