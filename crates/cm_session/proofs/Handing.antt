@@ -69,11 +69,21 @@ no_more (group ∷ groups) queue none = absurd (cc)
 module _ {D : Type 0} (counted : CommandsAreCounted) (k : Machine) (front : FrontState)
     (committer : CommitterState D) (queue : List Handed) (sealed : ℕ) (failed : Bool)
     (i : IsSession k front committer queue sealed failed) where
-  all_commands : accepted_to k ≡ front.number
+  pub all_commands : accepted_to k ≡ front.number
   all_commands =
       let all = counted front.sizes k committer.rows committer.number
       (pending (commands_of (of_underway committer.underway ++ queue)) front) i.follows in
       all ∙ i.ahead.numbers
+
+  pub known : k.sealed ≤ accepted_to k
+  known =
+      let all = all_commands in
+      let is = i.sealed_is in
+      let numbers = i.ahead.numbers in
+      let handed = i.ahead.sealed in
+      let long = length-append (commands_of (of_underway committer.underway ++ queue))
+      (commands_of front.unsealed) in
+      omega (arith, all, is, numbers, handed, long)
 
   pub none_waits : front.number ≡ sealed → k.sealed ≡ accepted_to k
   none_waits same =

@@ -7,5 +7,6 @@ mod Shown
 mod Stepping
 mod Reopened
 mod Stored
+mod Committed
 -- What a crash may leave of a session's disk.
 pub use Shown.{leaves_so}

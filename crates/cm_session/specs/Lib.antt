@@ -3,3 +3,4 @@ pub mod Session
 pub mod Moves
 pub mod Storing
 pub mod Laws
+pub mod Committing

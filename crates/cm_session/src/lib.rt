@@ -1,6 +1,7 @@
 //! One thread's use of a cache file, where each call is a step of the abstract machine.
 #![tactic(auto)]
 
+mod committing;
 mod joining;
 mod laws;
 mod opening;

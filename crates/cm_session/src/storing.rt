@@ -77,7 +77,7 @@ impl<D: Disk> Session<D> {
     }
 
     /// Makes device calls until a group is stored, the device fails, or nothing is left to do.
-    fn advance_group(&mut self) -> Result<Progress, AdvanceFault>
+    pub(crate) fn advance_group(&mut self) -> Result<Progress, AdvanceFault>
         ensures machine { (k : Machine) → SessionMatches k self.old
             → ReachesMachine (Advancing k result) (λ next. SessionMatches next self.new) }
         ensures ends { IsWorking result → ⊥ }
