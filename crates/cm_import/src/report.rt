@@ -1,0 +1,200 @@
+//! What became of the classes.
+
+use crate::messages::{say, warn};
+use crate::sizes::{Records, Region, region_for, slots_for};
+use crate::version::Version;
+use cm_commands::{Prepared, Refusal};
+use cm_found_classes::Unsearched;
+use cm_maintenance::Status;
+use std::alloc::{AllocError, Global};
+use std::fmt::Display;
+
+/// How many refusals are told one by one.
+const MOST_TOLD: u64 = 20;
+
+/// How many classes there are of another version.
+#[derive(Clone, Copy, Debug)]
+struct Skipped {
+    version: Version,
+    count: u64,
+}
+
+/// Counts of what became of the classes.
+#[derive(Debug, Drop)]
+pub struct Report {
+    imported: u64,
+    there: u64,
+    skipped: Vec<Skipped>,
+    refused: u64,
+    /// How many paths, jars and entries can't be read.
+    unread: u64,
+    /// That a class found no room in the journal, and in the region.
+    lacks_slots: bool,
+    lacks_roots: bool,
+    /// The records of the classes that a cache is asked to define.
+    records: Records,
+}
+
+impl Report {
+    /// Nothing was imported.
+    pub fn new(alloc: Global) -> Report {
+        Report {
+            imported: 0,
+            there: 0,
+            skipped: Vec::new(alloc),
+            refused: 0,
+            unread: 0,
+            lacks_slots: false,
+            lacks_roots: false,
+            records: Records::NONE,
+        }
+    }
+
+    /// How many classes were imported.
+    pub fn imported(&self) -> u64 {
+        self.imported
+    }
+
+    /// One class more that a cache is asked to define.
+    pub fn add_defined(&mut self, class: &Prepared) {
+        self.records.add(8 * u64::from(class.words()));
+    }
+
+    /// What became of a class that a cache was asked to define.
+    pub fn add_answer(&mut self, rt: &impl Eprint, name: &str, answer: &Result<u64, Refusal>) {
+        match answer {
+            Ok(_) => self.imported = self.imported.saturating_add(1),
+            Err(Refusal::ClassExists) => self.there = self.there.saturating_add(1),
+            Err(refusal) => {
+                self.note_room(*refusal);
+                self.add_refused(rt, name, *refusal);
+            }
+        }
+    }
+
+    /// Notes what a file that refuses a class had no room for.
+    fn note_room(&mut self, refusal: Refusal) {
+        match refusal {
+            Refusal::JournalFull => self.lacks_slots = true,
+            Refusal::RegionFull | Refusal::RecordTooLong => self.lacks_roots = true,
+            _ => {}
+        }
+    }
+
+    /// One class more that is refused.
+    pub fn add_refused(&mut self, rt: &impl Eprint, name: &str, refusal: Refusal) {
+        if self.refused < MOST_TOLD {
+            let number = refusal.number();
+            warn(rt, format_args!("{name}: refused {number} {refusal}"));
+        }
+        self.refused = self.refused.saturating_add(1);
+    }
+
+    /// One class more of another version.
+    pub fn add_skipped(&mut self, version: Version) -> Result<(), AllocError> {
+        for skipped in &mut self.skipped {
+            if skipped.version == version {
+                skipped.count = skipped.count.saturating_add(1);
+                return Ok(());
+            }
+        }
+        match self.skipped.push(Skipped { version, count: 1 }) {
+            Ok(()) => Ok(()),
+            Err(_) => Err(AllocError),
+        }
+    }
+
+    /// A path, a jar or an entry that can't be read.
+    pub fn add_unread(&mut self, rt: &impl Eprint, name: &str, why: impl Display + Drop) {
+        warn(rt, format_args!("{name}: {why}"));
+        self.unread = self.unread.saturating_add(1);
+    }
+
+    /// Paths that aren't searched.
+    pub fn add_unsearched(&mut self, rt: &impl Eprint, paths: &[Unsearched]) {
+        for Unsearched { path, fault } in paths {
+            self.add_unread(rt, path.as_str(), *fault);
+        }
+    }
+
+    fn skipped(&self) -> u64 {
+        let mut count = 0u64;
+        for skipped in &self.skipped {
+            count = count.saturating_add(skipped.count);
+        }
+        count
+    }
+
+    /// Says what isn't imported, and why.
+    fn say_rest(&self, rt: &impl Eprint) {
+        for skipped in &self.skipped {
+            let Version { major, minor } = skipped.version;
+            let count = skipped.count;
+            warn(
+                rt,
+                format_args!("skipped {count} of version {major}.{minor}"),
+            );
+        }
+        if self.refused > MOST_TOLD {
+            let more = self.refused - MOST_TOLD;
+            warn(rt, format_args!("refused {more} more"));
+        }
+        self.say_slots(rt);
+        self.say_roots(rt);
+    }
+
+    /// If classes found no room in the journal, says how many slots hold them.
+    fn say_slots(&self, rt: &impl Eprint) {
+        if !self.lacks_slots {
+            return;
+        }
+        match slots_for(&self.records) {
+            Some(slots) => warn(
+                rt,
+                format_args!("journal full: a new file with --slots {slots} holds these classes"),
+            ),
+            None => warn(rt, "journal full: no file holds all these classes"),
+        }
+    }
+
+    /// If classes found no room in the region, says which roots hold them.
+    fn say_roots(&self, rt: &impl Eprint) {
+        if !self.lacks_roots {
+            return;
+        }
+        match region_for(&self.records) {
+            Some(Region { top, roots }) => warn(
+                rt,
+                format_args!(
+                    "region full: a new file with --top {top} --roots {roots} holds these classes"
+                ),
+            ),
+            None => warn(rt, "region full: no file holds all these classes"),
+        }
+    }
+
+    /// Says how many were imported before a failure.
+    pub fn say_imported(&self, rt: &impl Eprint) {
+        let imported = self.imported;
+        warn(rt, format_args!("imported {imported} before the failure"));
+    }
+
+    /// Says what became of all, and gives the status.
+    pub fn say_all(&self, rt: &(impl Print + Eprint), number: u64) -> Status {
+        self.say_rest(rt);
+        let status = if self.refused > 0 || self.unread > 0 {
+            Status::Refused
+        } else {
+            Status::Done
+        };
+        let (done, there, refused) = (self.imported, self.there, self.refused);
+        let skipped = self.skipped();
+        say(
+            rt,
+            format_args!(
+                "imported {done} there {there} skipped {skipped} refused {refused} number {number}"
+            ),
+            status,
+        )
+    }
+}

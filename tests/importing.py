@@ -1,0 +1,382 @@
+#!/usr/bin/env python3
+"""Runs cm_import on classes, folders and jars, and looks at what the file holds.
+
+    tests/importing.py IMPORTER PROGRAM CALLS_LIBRARY KILLS SEED
+"""
+import os
+import random
+import re
+import struct
+import subprocess
+import sys
+import tempfile
+import time
+import zipfile
+
+import region
+import runs
+
+A_GROUP = 64
+LINE = re.compile(rb"imported (\d+) there (\d+) skipped (\d+) refused (\d+) number (\d+)")
+
+
+def class_bytes(name, zeros=0):
+    """A class of this name, with an attribute of this many zeros."""
+    name = name.encode()
+    head = runs.HEAD.replace(b"\x01\x00\x01A", b"\x01" + struct.pack(">H", len(name)) + name)
+    return head + runs.TAIL + zeros.to_bytes(4, "big") + bytes(zeros)
+
+
+def of_version(data, major):
+    return data[:6] + struct.pack(">H", major) + data[8:]
+
+
+class Bench:
+    """The programs, a folder, and what passed."""
+
+    def __init__(self, importer, program, library, folder):
+        self.importer, self.program, self.library, self.folder = importer, program, library, folder
+        self.checks = runs.Checks()
+        self.count = 0
+
+    def path(self, name):
+        return f"{self.folder}/{name}"
+
+    def new_path(self):
+        self.count += 1
+        return self.path(f"cache{self.count}")
+
+    def run(self, *words, env=None):
+        return runs.run(self.importer, list(words), env=env)
+
+    def says(self, name, got, line, status, errors=()):
+        """The run wrote this line and these parts of lines on standard error, a part each."""
+        lines = got[2].splitlines()
+        good = got[0] == ([line] if line else []) and got[1] == status
+        good = good and len(lines) == len(errors)
+        good = good and all(part in text for part, text in zip(errors, lines))
+        return self.checks.check(name, good, f"got {got}")
+
+    def holds(self, name, path, loader, names):
+        """The file is a cache with these classes, in this order of their numbers."""
+        try:
+            state = region.read(path).state()
+        except (region.NotACache, region.Damaged) as verdict:
+            return self.checks.check(name, False, str(verdict))
+        found = sorted(state.get(loader, {}))
+        checked = runs.run(self.program, ["check", path])
+        return self.checks.check(
+            name, found == sorted(n.encode() for n in names) and checked[1] == 0,
+            f"{len(found)} classes, wanted {len(names)}; {checked}")
+
+
+def line(imported, there=0, skipped=0, refused=0, number=0):
+    return (f"imported {imported} there {there} skipped {skipped} refused {refused} "
+            f"number {number}").encode()
+
+
+def names_of(count):
+    return [f"p/C{at:04}" for at in range(count)]
+
+
+def make_jar(path, contents, packed=zipfile.ZIP_DEFLATED):
+    with zipfile.ZipFile(path, "w", packed) as jar:
+        for name, data in contents:
+            jar.writestr(name, data)
+
+
+def make_folder(path, contents):
+    for name, data in contents:
+        place = f"{path}/{name}"
+        os.makedirs(os.path.dirname(place), exist_ok=True)
+        with open(place, "wb") as file:
+            file.write(data)
+
+
+def usual(bench):
+    """Files, folders and jars, with one worker and with several, and once more."""
+    names = names_of(300)
+    contents = [(f"{name}.class", class_bytes(name, 7 * at)) for at, name in enumerate(names)]
+    left_out = [("module-info.class", b"no class"), ("p/package-info.class", b"none"),
+                ("p/notes.txt", b"text"), ("META-INF/MANIFEST.MF", b"")]
+    jar, stored, folder = bench.path("a.jar"), bench.path("stored.jar"), bench.path("classes")
+    make_jar(jar, contents + left_out)
+    make_jar(stored, contents + left_out, zipfile.ZIP_STORED)
+    make_folder(folder, contents + left_out)
+    files = []
+    for source in (jar, stored, folder):
+        for workers in ("1", "4"):
+            path = bench.new_path()
+            files.append(path)
+            got = bench.run(path, "app", source, "--new", "--workers", workers)
+            bench.says(f"{source}, {workers} workers", got, line(300, number=301), 0)
+            bench.holds(f"{source}, {workers} workers: the file", path, b"app", names)
+    contents_of = {open(path, "rb").read() for path in files}
+    bench.checks.check("the same bytes each time", len(contents_of) == 1, f"{len(contents_of)}")
+    bench.says("once more", bench.run(files[0], "app", jar), line(0, there=300, number=301), 0)
+    bench.says("another loader", bench.run(files[0], "ext", jar), line(300, number=602), 0)
+    path = bench.new_path()
+    single = [f"{folder}/{names[2]}.class", f"{folder}/{names[1]}.class"]
+    bench.says("two files", bench.run(path, "app", *single, "--new"), line(2, number=3), 0)
+    bench.holds("two files: the file", path, b"app", [names[1], names[2]])
+    jars = bench.path("jars")
+    make_jar(bench.path("b.jar"), contents[:10])
+    make_folder(jars, [("lib/b.jar", open(bench.path("b.jar"), "rb").read()),
+                       ("Z.class", class_bytes("Z"))])
+    path = bench.new_path()
+    bench.says("jars in a folder", bench.run(path, "app", jars, "--new"), line(11, number=12), 0)
+    return jar, names
+
+
+def readme(bench):
+    """The command of README.md, which imports a jar of examples/."""
+    with open("README.md", encoding="utf-8") as file:
+        words = re.search(r"^ +bin/cm_import (.*?) +#", file.read(), re.MULTILINE)[1].split()
+    path = bench.path(words[0])
+    bench.says("README.md", bench.run(path, *words[1:]), line(2, number=3), 0)
+    bench.holds("README.md: the file", path, b"app", ["A", "example/B"])
+
+
+def not_imported(bench):
+    """What isn't imported, and what is said of it."""
+    good = class_bytes("Good")
+    broken = good[:-8] + b"\x00\x01\x00\x05\x00\x00\x00\x09"
+    jar, path = bench.path("mixed.jar"), bench.new_path()
+    make_jar(jar, [("A.class", of_version(good, 61)), ("B.class", of_version(good, 61)),
+                   ("C.class", of_version(good, 50)), ("Good.class", good),
+                   ("Cut.class", broken), ("Again.class", good)])
+    got = bench.run(path, "app", jar, "--new")
+    bench.says("versions, and a class that is cut", got, line(1, 1, 3, 1, 2), 1,
+               ["Cut.class: refused 14 truncated", "skipped 2 of version 61.0",
+                "skipped 1 of version 50.0"])
+    many = bench.path("many.jar")
+    make_jar(many, [(f"{at:02}.class", broken) for at in range(25)])
+    got = bench.run(path, "app", many)
+    bench.says("25 refusals", got, line(0, refused=25, number=2), 1,
+               [f"{at:02}.class: refused 14" for at in range(20)] + ["refused 5 more"])
+    data = bytearray(open(jar, "rb").read())
+    at = data.rindex(b"Good.class") - 46  # its header in the directory
+    data[at + 16] ^= 1
+    spoilt = bench.path("spoilt.jar")
+    with open(spoilt, "wb") as file:
+        file.write(data)
+    make_jar(jar, [("A.class", class_bytes("A"))])
+    missing, damaged = bench.path("missing"), bench.path("damaged.jar")
+    with open(damaged, "wb") as file:
+        file.write(b"no jar")
+    got = bench.run(path, "app", missing, damaged, spoilt, jar)
+    good_lines = got[2].splitlines()
+    bench.checks.check("paths that can't be read", got[1] == 1 and any(
+        "missing" in text for text in good_lines) and any(
+        "damaged.jar: no end of central directory record" in text for text in good_lines) and any(
+        "Good.class: " in text and "CRC" in text.upper() for text in good_lines), f"{got}")
+    bench.holds("the others are imported", path, b"app", ["A", "Good"])
+    folder = bench.path("links")
+    make_folder(folder, [("A.class", class_bytes("A")), ("p/B.class", class_bytes("B"))])
+    os.symlink("nowhere", f"{folder}/Gone.class")
+    os.symlink("p", f"{folder}/q")
+    os.symlink("p/B.class", f"{folder}/Link.class")
+    path = bench.new_path()
+    bench.says("links", bench.run(path, "app", folder, "--new"), line(2, 1, 0, 0, 3), 1,
+               ["Gone.class: "])
+    bench.holds("links: the file", path, b"app", ["A", "B"])
+
+
+def words(bench, jar):
+    """Wrong words, and files that aren't there or are there already."""
+    path = bench.new_path()
+    bench.checks.check("no words", bench.run()[1] == 2)
+    bench.checks.check("sizes without --new", bench.run(path, "app", jar, "--slots", "256")[1] == 2)
+    bench.checks.check("no workers", bench.run(path, "app", jar, "--workers", "0")[1] == 2)
+    bench.checks.check("help", bench.run("--help")[1] == 0)
+    got = bench.run(path, "app", jar)
+    bench.checks.check("no file", got[0] == [b"device"] and got[1] == 3, f"{got}")
+    bench.run(path, "app", jar, "--new")
+    got = bench.run(path, "app", jar, "--new")
+    bench.checks.check("a file that is there", got[0] == [b"exists"] and got[1] == 1, f"{got}")
+    got = bench.run(path, "bad name", jar)
+    bench.checks.check("a bad name", got[0] == [b"refused 1 name"] and got[1] == 1, f"{got}")
+    with open(path, "r+b") as file:
+        file.write(b"spoilt")
+    got = bench.run(path, "app", jar)
+    bench.checks.check("no cache", got[0] == [b"not a cache"] and got[1] == 1, f"{got}")
+
+
+def full(bench, jar, names):
+    """A journal and a region that are full: a file of the sizes that are named then holds all."""
+    for name, sizes in (("journal", ["--slots", "256"]),
+                        ("region", ["--top", "6", "--roots", "1"]),
+                        ("root", ["--top", "3", "--roots", "1"])):
+        path = bench.new_path()
+        got = bench.run(path, "app", jar, "--new", *sizes)
+        found = LINE.fullmatch(got[0][0]) if got[0] else None
+        stored = int(found[1]) if found else 0
+        bench.checks.check(f"a full {name}", 0 < stored < len(names) and got[1] == 1 and got[0] == [
+            line(stored, refused=len(names) - stored, number=stored + 1)], f"{got[0]} {got[1]}")
+        named = re.findall(r"(--\w+) (\d+)", got[2].splitlines()[-1])
+        bench.checks.check(f"a full {name}: the sizes", named != [], got[2][-200:])
+        wanted = [word for it in named for word in it]
+        got = bench.run(bench.new_path(), "app", jar, "--new", *wanted)
+        bench.says(f"a full {name}: a file of these sizes", got,
+                   line(len(names), number=len(names) + 1), 0)
+    path = bench.new_path()
+    bench.run(path, "app", jar, "--new", "--slots", "256")
+    bench.holds("a full journal: the file", path, b"app", names[:127])
+
+
+def kills(bench, jar, names, count, rng):
+    """Runs that are killed leave a beginning of the classes; the next run imports the others."""
+    path, start = bench.new_path(), time.monotonic()
+    bench.run(path, "app", jar, "--new", "--workers", "1")
+    whole = time.monotonic() - start
+    hit = 0
+    for turn in range(count):
+        path = bench.new_path()
+        bench.run(path, "app", bench.path("none"), "--new")
+        process = subprocess.Popen([bench.importer, path, "app", jar], stdout=subprocess.PIPE,
+                                   stderr=subprocess.PIPE)
+        time.sleep(rng.uniform(0, whole))
+        process.kill()
+        out, _ = process.communicate()
+        hit += process.returncode == -9
+        found = sorted(region.read(path).state().get(b"app", {}))
+        wanted = [name.encode() for name in names[:len(found)]]
+        good = found == wanted and (not out or len(found) == len(names))
+        bench.checks.check(f"kill {turn}: a beginning", good, f"{len(found)} classes")
+        got = bench.run(path, "app", jar)
+        bench.says(f"kill {turn}: the next run", got,
+                   line(len(names) - len(found), there=len(found), number=len(names) + 1), 0)
+        os.remove(path)
+    bench.checks.check("some kills hit", hit > 0 or count == 0)
+
+
+def listed(path):
+    """How many class files a jar's directory lists; None if zipfile can't read it."""
+    try:
+        with zipfile.ZipFile(path) as jar:
+            names = [name.rsplit("/", 1)[-1] for name in jar.namelist()]
+    except (zipfile.BadZipFile, NotImplementedError):
+        return None
+    return sum(name.endswith(".class") and name not in ("module-info.class", "package-info.class")
+               for name in names)
+
+
+def damaged_jars(bench, jar, names, count, rng):
+    """Jars with changed bytes, or cut: what can be read of them is imported, and nothing else."""
+    data = open(jar, "rb").read()
+    for turn in range(count):
+        spoilt, path = bytearray(data), bench.new_path()
+        if turn % 4 == 0:
+            del spoilt[rng.randrange(len(spoilt)):]
+        for _ in range(rng.choice([1, 3, 30])):
+            if spoilt:
+                spoilt[rng.randrange(len(spoilt))] = rng.randrange(256)
+        damaged = bench.path("damaged.jar")
+        with open(damaged, "wb") as file:
+            file.write(spoilt)
+        got = bench.run(path, "app", damaged, "--new")
+        found = region.read(path).state().get(b"app", {})
+        told = LINE.fullmatch(got[0][0]) if len(got[0]) == 1 else None
+        good = told is not None and int(told[1]) == len(found) and got[1] in (0, 1)
+        good = good and set(found) <= {name.encode() for name in names}
+        good = good and (len(found) == listed(damaged) if got[1] == 0 else got[2] != "")
+        bench.checks.check(f"damaged jar {turn}", good, f"{len(found)} classes, {got}")
+        os.remove(path)
+
+
+def calls_in(path):
+    """The calls on files that the library logged, with the bytes of writes."""
+    data, at, calls = open(path, "rb").read(), 0, []
+    while at < len(data):
+        letter, first, length = data[at:at + 1], *struct.unpack_from("<QQ", data, at + 1)
+        at += 17
+        written = b""
+        if letter.lower() in (b"w", b"r"):
+            written = data[at:at + length]
+            at += length
+        calls.append((letter, first, written))
+    return calls
+
+
+def replay(data, calls):
+    """What a file holds after each of these calls on it."""
+    data = bytearray(data)
+    for letter, first, written in calls:
+        if letter == b"w":
+            data.extend(bytes(max(0, first + len(written) - len(data))))
+            data[first:first + len(written)] = written
+        elif letter == b"c":
+            del data[first:]
+        yield bytes(data)
+
+
+def is_beginning(path, names):
+    """How many classes the file holds, if they are the first of these; None if not."""
+    try:
+        found = sorted(region.read(path).state().get(b"app", {}))
+    except (region.NotACache, region.Damaged):
+        return None
+    return len(found) if found == [name.encode() for name in names[:len(found)]] else None
+
+
+def device(bench, count):
+    """A run that ends after each call on the file, and each call fails in turn."""
+    names, jar, log = names_of(count), bench.path("device.jar"), bench.path("log")
+    make_jar(jar, [(f"{name}.class", class_bytes(name)) for name in names])
+    empty = bench.new_path()
+    bench.run(empty, "app", bench.path("none"), "--new")
+    data = open(empty, "rb").read()
+    path = bench.path("faulty")
+
+    def put(contents):
+        with open(path, "wb") as file:
+            file.write(contents)
+
+    def run(**faults):
+        put(data)
+        if os.path.exists(log):
+            os.remove(log)
+        env = {"LD_PRELOAD": bench.library, "CALLS": log,
+               **{name: str(value) for name, value in faults.items()}}
+        return bench.run(path, "app", jar, "--workers", "1", env=env)
+
+    bench.says("no fault", run(), line(len(names), number=len(names) + 1), 0)
+    calls = [call for call in calls_in(log) if call[0] in (b"w", b"s", b"c")]
+    syncs = sum(call[0] == b"s" for call in calls)
+    groups = -(-len(names) // A_GROUP)
+    bench.checks.check("two syncs a group", syncs <= 2 * groups + 4, f"{syncs} for {groups} groups")
+    least = 0
+    for count, contents in enumerate(replay(data, calls), 1):
+        put(contents)
+        found = is_beginning(path, names)
+        good = found is not None and found >= least
+        bench.checks.check(f"ended after call {count}", good, f"{found} classes, {least} before")
+        least = found or least
+    bench.checks.check("all are there after the last call", least == len(names), f"{least}")
+    for fails in range(1, len(calls) + 1):
+        got = run(FAIL=fails)
+        found = is_beginning(path, names)
+        told = re.search(r"imported (\d+) before the failure", got[2])
+        good = got[1] == 3 and found is not None and "Input/output error" in got[2]
+        good = good and (told is None or int(told[1]) <= found)
+        bench.checks.check(f"call {fails} fails", good, f"{found} classes, {got[1]} {got[2]}")
+
+
+def main(arguments):
+    importer, program, library, count, seed = arguments
+    rng = random.Random(int(seed))
+    with tempfile.TemporaryDirectory(dir=os.environ.get("WORK")) as folder:
+        bench = Bench(importer, program, library, folder)
+        readme(bench)
+        jar, names = usual(bench)
+        not_imported(bench)
+        words(bench, jar)
+        full(bench, jar, names)
+        damaged_jars(bench, jar, names, 2 * int(count), rng)
+        kills(bench, jar, names, int(count), rng)
+        device(bench, 2 * A_GROUP + 2)
+        return bench.checks.finish()
+
+
+if __name__ == "__main__":
+    sys.exit(main(sys.argv[1:]))
