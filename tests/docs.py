@@ -195,16 +195,17 @@ def fenced(kind):
             for block in re.findall(rf"^```{kind}\n(.*?)^```$", README.read_text(), re.S | re.M)]
 
 
+# An item of a program: a function with its comment, or an `impl`.
+ITEM = re.compile(r"^(?:///.*\n)*(?:fn|impl)\b(?:.*\n)+?}\n", re.M)
+
+
 def example():
-    """README.md's library example is code of cm_example, which CI proves and runs: each of
-    its parts, between empty lines, stands there word for word, and in this order."""
-    code = (TOP / "crates/cm_example/src/main.rt").read_text()
-    at = 0
+    """README.md's library example is code of cm_example, which CI proves and runs: each block is a
+    whole item of it, byte for byte."""
+    items = ITEM.findall((TOP / "crates/cm_example/src/main.rt").read_text())
     for block in fenced("rust"):
-        for part in "\n".join(block).split("\n\n"):
-            found = code.find(f"\n{part}\n", at)
-            yield found >= 0, f"{README}: in cm_example: {part.strip().splitlines()[0]}"
-            at = max(at, found + len(part))
+        text = "".join(f"{line}\n" for line in block)
+        yield text in items, f"{README}: a whole item of cm_example: {block[0]}"
 
 
 # The limits of README.md: the row, which of its numbers, and the code that says the same, with N

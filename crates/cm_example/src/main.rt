@@ -1,145 +1,121 @@
-//! `cm_example`: a cache in memory, used by two threads through the library.
+//! `cm_example FILE JAR`: four threads define the classes of a jar in a cache in a new file, and
+//! look each of them up.
 #![tactic(auto)]
 
-ghost use Rattle.cm_disk.specs.Sim.{sim_failures};
-ghost use Rattle.cm_cache.specs.Starting.{Belongs, MayStart};
-
-use anyhow::{Result, bail};
-use cm_cache::{Cache, Closed, Naming, NewCache, Pass, opened_may_start};
-use cm_commit::Committer;
-use cm_disk::SimDisk;
-use cm_front::{Front, Refusal, prepare};
-use cm_pool::Geometry;
-use cm_recover::{NotOpened, format, open};
+use anyhow::{Context, Result, bail};
+use cm_jar::Jar;
+use cm_library::{
+    Cache, FileDisk, Finished, Geometry, Naming, Pass, Work, format, open_file, prepare,
+    with_threads,
+};
 use std::alloc::Global;
-use std::marker::Brand;
+use std::fs::{File, Files};
 use std::process::ExitCode;
+use std::rt::Env;
 use std::sync::Wait;
-use std::thread;
 use std::thread::Threads;
+use std::{env, fs};
 
-/// A class file of 53 bytes: the class `A`, which extends `java/lang/Object`.
-const CLASS_A: [u8; 53] = *b"\xca\xfe\xba\xbe\x00\x00\x00\x34\x00\x05\x07\x00\x02\x01\x00\x01A\
-\x07\x00\x04\x01\x00\x10java/lang/Object\x00\x21\x00\x01\x00\x03\x00\x00\x00\x00\x00\x00\x00\x00";
+/// The loaders, one for each thread.
+const LOADERS: [&[u8]; 4] = [b"a", b"b", b"c", b"d"];
 
-/// What a thread works with: a loader of its own, and a pass.
+/// A thread's work: every fourth entry of a jar, for a loader of its own.
 #[derive(Drop)]
-struct Part<K: Naming> {
-    loader: u8,
-    pass: Pass<K>,
+struct Share<'a> {
+    jar: &'a Jar<'a>,
+    thread: usize,
 }
 
-/// The result of this: how many words the class's record has, 0 if it isn't there.
-#[derive(Drop)]
-struct Done<K: Naming> {
-    words: u32,
-    pass: Pass<K>,
+impl<R: Wait> Work<R> for Share<'_> {
+    type Output = Result<usize>;
+
+    ghost may_run = { λ _. Unit {0} };
+
+    ghost keeps = { λ _ _. Unit {0} };
+
+    /// Defines the classes, and returns how many are then found.
+    fn run<K: Naming>(
+        self,
+        rt: &R,
+        alloc: Global,
+        cache: &Cache<K>,
+        pass: &mut Pass<K>,
+    ) -> Result<usize> {
+        let loader = LOADERS[self.thread % 4];
+        cache.add_loader(rt, pass, loader)?; // returns once the loader is stored
+        let mut found = 0usize;
+        for entry in self.jar.entries().iter().skip(self.thread).step_by(4) {
+            if let Some(name) = entry.name().strip_suffix(b".class") {
+                let class = prepare(alloc, &entry.content(alloc)?)?; // read and checked, no lock
+                cache.define(rt, pass, loader, class)?; // returns once the class is stored
+                let record = cache.find(rt, loader, name)?;
+                found = found.saturating_add(usize::from(record.is_some()));
+            }
+        }
+        Ok(found)
+    }
+}
+
+/// Makes a file with an empty cache, and has threads define the classes of a jar in it.
+fn define_jar<R>(rt: &R, path: &str, jar: &Jar<'_>) -> Result<()>
+where
+    R: Files<File = File> + Print + AllocGlobal + Threads + Wait + Copy + Send + Sync + 'static,
+{
+    let alloc = rt.alloc();
+    let sizes = Geometry::new(8, 64, 4_096).context("sizes")?;
+    format(alloc, &mut FileDisk::create(rt, alloc, path)?, sizes)?;
+    let mut shares = Vec::new(alloc);
+    for thread in 0..LOADERS.len() {
+        shares.push(Share { jar, thread })?;
+    }
+    let Finished {
+        output,
+        counts,
+        disk: _,
+    } = with_threads(rt, alloc, open_file(rt, path)?, 4, shares)?;
+    println!(rt;
+        "{} of {} commands are stored",
+        counts.committed, counts.handed
+    )?;
+    if counts.unsure() > 0 {
+        bail!(
+            "commands {} to {} are unsure",
+            counts.committed + 1,
+            counts.handed
+        );
+    }
+    for found in output? {
+        println!(rt; "{} classes are found", found?)?;
+    }
+    Ok(())
+}
+
+/// Reads the jar that the command line names.
+fn run<R>(rt: &R) -> Result<()>
+where
+    R: Env
+        + Files<File = File>
+        + Print
+        + AllocGlobal
+        + Threads
+        + Wait
+        + Copy
+        + Send
+        + Sync
+        + 'static,
+{
+    let mut words = env::args(rt)?.skip(1);
+    let path = words.next().context("usage: cm_example FILE JAR")?;
+    let jar = words.next().context("usage: cm_example FILE JAR")?;
+    define_jar(rt, &path, &Jar::read(rt.alloc(), &fs::read(rt, &jar)?)?)
 }
 
 fn main(rt: HostRuntime) -> ExitCode {
-    match open_and_run(&rt) {
+    match run(&rt) {
         Ok(()) => ExitCode::from(0),
         Err(error) => {
             let _ = eprintln!(rt; "cm_example: {error}");
             ExitCode::from(3)
         }
-    }
-}
-
-/// Formats a disk in memory, opens it, and runs a cache on it.
-fn open_and_run<R>(rt: &R) -> Result<()>
-where
-    R: Threads + Wait + Print + AllocGlobal + Copy + Send + Sync + 'static,
-{
-    let alloc = rt.alloc();
-    let Some(geometry) = Geometry::new(8, 64, 4_096) else {
-        bail!("sizes");
-    };
-
-    let mut disk = SimDisk::new(alloc); // FileDisk is one over a real file
-    format(alloc, &mut disk, geometry)?;
-    let (front, committer) = match open(alloc, disk) {
-        Ok(opened) => opened,
-        Err(NotOpened { fault, disk: _ }) => return Err(fault.into()),
-    };
-    opened_may_start(&front, &committer);
-    let new = NewCache::new(alloc, committer.number())?; // what the threads share
-    run::<Brand, R>(rt, alloc, new, front, committer)
-}
-
-/// Runs a cache for the threads, and closes it.
-fn run<K, R>(
-    rt: &R,
-    alloc: Global,
-    new: NewCache,
-    front: Front,
-    committer: Committer<SimDisk>,
-) -> Result<()>
-where
-    K: Naming + Send + Sync + 'static,
-    R: Threads + Wait + Print + Copy + Send + Sync + 'static,
-    requires new { Belongs K.base K.channel K.board K.name K.parts new }
-    requires opened { MayStart K.base K.failed sim_failures front committer }
-{
-    // The flusher is the thread that stores what others define.
-    let (cache, flusher) = Cache::<K>::start(rt, alloc, new, front, committer)?;
-    let passes = work_in_threads(rt, alloc, &cache).unwrap_or(Vec::new(alloc));
-    let Closed {
-        committed,
-        handed: _,
-        of_passes: _,
-        missing: _,
-        disk,
-    } = cache.close(rt, flusher, passes);
-
-    drop(disk);
-    println!(rt; "{committed} commands are stored")?;
-    Ok(())
-}
-
-/// Has two threads work, and returns their passes.
-fn work_in_threads<K, R>(rt: &R, alloc: Global, cache: &Cache<K>) -> Result<Vec<Pass<K>>>
-where
-    K: Naming + Send + Sync + 'static,
-    R: Threads + Wait + Print + Sync,
-{
-    let mut parts = Vec::new(alloc);
-    for loader in [b'a', b'b'] {
-        let pass = cache.pass(rt)?;
-        parts.push(Part { loader, pass })?;
-    }
-    // One thread for each part.
-    let all = thread::map_vec(rt, parts, &|part| work(rt, alloc, cache, part))?;
-
-    let mut passes = Vec::new(alloc);
-    for done in all {
-        let Done { words, pass } = done;
-        println!(rt; "A has {words} words")?;
-        passes.push(pass)?;
-    }
-    Ok(passes)
-}
-
-/// One thread's work, through a pass of its own.
-fn work<K: Naming, R: Wait>(rt: &R, alloc: Global, cache: &Cache<K>, part: Part<K>) -> Done<K> {
-    let Part { loader, mut pass } = part;
-    let words = define_and_find(rt, alloc, cache, &mut pass, &[loader]).unwrap_or(0);
-    Done { words, pass }
-}
-
-/// Makes a loader, defines the class in it, and finds it.
-fn define_and_find<K: Naming, R: Wait>(
-    rt: &R,
-    alloc: Global,
-    cache: &Cache<K>,
-    pass: &mut Pass<K>,
-    loader: &[u8],
-) -> Result<u32, Refusal> {
-    let class = prepare(alloc, &CLASS_A)?; // read and judged, without a lock
-    cache.add_loader(rt, pass, loader)?; // returns once the loader is stored
-    cache.define(rt, pass, loader, class)?; // returns once the class is stored
-    match cache.find(rt, loader, b"A")? {
-        Some(record) => Ok(record.words()),
-        None => Ok(0),
     }
 }

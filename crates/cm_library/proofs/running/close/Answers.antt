@@ -1,0 +1,14 @@
+use Rattle.cm_library.proofs.running.close.Goals as goal
+
+pub returns : goal.returns
+returns g c =
+    let closing = c.close-handed.ensures in
+    record {
+      shares = closing.shares;
+      counted = closing.counted;
+      all_back = closing.passes;
+      receipts = closing.receipts;
+      images = closing.images;
+      whole = λ same. (closing.whole same).0;
+      sure = λ same. (closing.whole same).1;
+    }

@@ -1,0 +1,19 @@
+//! The cache as a library: what a program needs of it in one crate, and a call that opens a cache,
+//! has threads use it, and closes it.
+#![tactic(auto)]
+
+mod counts;
+mod running;
+mod work;
+
+pub use cm_cache::{Cache, Naming, Pass};
+pub use cm_commands::{Names, Prepared, Refusal, prepare};
+pub use cm_disk::{Disk, SimDisk};
+pub use cm_file_disk::{CreateError, FileDisk, OpenError};
+pub use cm_pool::Geometry;
+pub use cm_record::Record;
+pub use cm_recover::{FormatFault, OpenFault, format};
+pub use cm_region_file::open as open_file;
+pub use counts::Counts;
+pub use running::{Finished, NotRun, with_cache, with_threads};
+pub use work::Work;
