@@ -1,17 +1,11 @@
 //! One thread's calls of a running cache, as tables of calls and results.
 
-ghost use Rattle.cm_disk.specs.Sim.{sim_failures};
-ghost use Rattle.cm_cache.specs.Starting.{Belongs, MayStart};
-
+use crate::fused::calls_to_open;
 use crate::holding::class;
-use crate::running::{Counts, formatted, opened, opened_to_fail};
-use cm_cache::{Cache, Naming, NewCache, Pass};
-use cm_commands::{Names, Refusal};
-use cm_commit::Committer;
-use cm_disk::SimDisk;
-use cm_front::Front;
-use std::alloc::{AllocError, Global};
-use std::marker::Brand;
+use crate::running::formatted;
+use cm_disk::FuseDisk;
+use cm_library::{Cache, Counts, Disk, Finished, Names, Naming, Pass, Refusal, Work, with_cache};
+use std::alloc::Global;
 use std::sync::Wait;
 use std::test::*;
 use std::thread::Threads;
@@ -80,45 +74,49 @@ fn make_call<K: Naming, R: Wait>(
     }
 }
 
-fn make_calls<K: Naming, R: Wait>(
-    rt: &R,
-    alloc: Global,
-    cache: &Cache<K>,
-    calls: &[Call],
-) -> Result<(Vec<Pass<K>>, Vec<Answer>), AllocError> {
-    let mut answers = Vec::new(alloc);
-    let mut passes = Vec::new(alloc);
-    if let Ok(mut pass) = cache.pass(rt) {
+/// These calls, through one pass.
+#[derive(Drop)]
+struct Calls(&'static [Call]);
+
+impl<R: Wait> Work<R> for Calls {
+    type Output = Result<Vec<Answer>, Fail>;
+
+    ghost may_run = { λ _. Unit {0} };
+
+    ghost keeps = { λ _ _. Unit {0} };
+
+    fn run<K: Naming>(
+        self,
+        rt: &R,
+        alloc: Global,
+        cache: &Cache<K>,
+        pass: &mut Pass<K>,
+    ) -> Result<Vec<Answer>, Fail> {
+        let Calls(calls) = self;
+        let mut answers = Vec::new(alloc);
         for one in calls {
-            answers.push(make_call(rt, alloc, cache, &mut pass, *one))?;
+            answers.push(make_call(rt, alloc, cache, pass, *one))?;
         }
-        passes.push(pass)?;
+        Ok(answers)
     }
-    Ok((passes, answers))
 }
 
-fn run<K, R>(
+fn run<R, D>(
     rt: &R,
     alloc: Global,
-    new: NewCache,
-    front: Front,
-    committer: Committer<SimDisk>,
-    calls: &[Call],
+    disk: D,
+    calls: &'static [Call],
 ) -> Result<(Counts, Vec<Answer>), Fail>
 where
-    K: Naming + Send + Sync + 'static,
     R: Threads + Wait + Copy + Send + Sync + 'static,
-    requires new { Belongs K.base K.channel K.board K.name K.parts new }
-    requires opened { MayStart K.base K.failed sim_failures front committer }
+    D: Disk + Drop + Send + 'static,
 {
-    let (cache, flusher) = Cache::<K>::start(rt, alloc, new, front, committer)?;
-    let (passes, answers) = match make_calls(rt, alloc, &cache, calls) {
-        Ok(called) => called,
-        Err(_) => (Vec::new(alloc), Vec::new(alloc)),
-    };
-    let (counts, disk) = Counts::of(cache.close(rt, flusher, passes));
-    drop(disk);
-    Ok((counts, answers))
+    let Finished {
+        output,
+        counts,
+        disk: _,
+    } = with_cache(rt, alloc, disk, 1, Calls(calls))?;
+    Ok((counts, output??))
 }
 
 const STOPPED: &[Call] = &[
@@ -135,9 +133,7 @@ const STOPPED: &[Call] = &[
 #[test]
 fn a_stopped_cache_refuses_changes_and_finds(rt: HostRuntime) -> Result<(), Fail> {
     let alloc = rt.alloc();
-    let (front, committer) = opened(alloc, formatted(alloc)?)?;
-    let new = NewCache::new(alloc, committer.number())?;
-    let (counts, answers) = run::<Brand, HostRuntime>(&rt, alloc, new, front, committer, STOPPED)?;
+    let (counts, answers) = run(&rt, alloc, formatted(alloc)?, STOPPED)?;
     assert_eq!(rt;
         counts,
         Counts {
@@ -180,9 +176,7 @@ const MOVED: &[Call] = &[
 #[test]
 fn a_move_is_stored_and_changes_nothing_that_is_found(rt: HostRuntime) -> Result<(), Fail> {
     let alloc = rt.alloc();
-    let (front, committer) = opened(alloc, formatted(alloc)?)?;
-    let new = NewCache::new(alloc, committer.number())?;
-    let (counts, answers) = run::<Brand, HostRuntime>(&rt, alloc, new, front, committer, MOVED)?;
+    let (counts, answers) = run(&rt, alloc, formatted(alloc)?, MOVED)?;
     assert_eq!(rt;
         counts,
         Counts {
@@ -227,9 +221,7 @@ const TOGETHER: &[Call] = &[
 #[test]
 fn several_loaders_go_at_once_or_not_at_all(rt: HostRuntime) -> Result<(), Fail> {
     let alloc = rt.alloc();
-    let (front, committer) = opened(alloc, formatted(alloc)?)?;
-    let new = NewCache::new(alloc, committer.number())?;
-    let (counts, answers) = run::<Brand, HostRuntime>(&rt, alloc, new, front, committer, TOGETHER)?;
+    let (counts, answers) = run(&rt, alloc, formatted(alloc)?, TOGETHER)?;
     assert_eq!(rt;
         counts,
         Counts {
@@ -268,9 +260,8 @@ const BROKEN: &[Call] = &[
 #[test]
 fn a_device_that_fails_leaves_a_call_unsure(rt: HostRuntime) -> Result<(), Fail> {
     let alloc = rt.alloc();
-    let (front, committer) = opened_to_fail(alloc, formatted(alloc)?)?;
-    let new = NewCache::new(alloc, committer.number())?;
-    let (counts, answers) = run::<Brand, HostRuntime>(&rt, alloc, new, front, committer, BROKEN)?;
+    let (calls, disk) = calls_to_open(alloc, formatted(alloc)?);
+    let (counts, answers) = run(&rt, alloc, FuseDisk::new(disk, calls, 0), BROKEN)?;
     assert_eq!(rt;
         counts,
         Counts {

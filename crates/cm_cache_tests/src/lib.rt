@@ -1,4 +1,4 @@
-//! Worked examples of `cm_cache`, through its public functions.
+//! Worked examples of `cm_cache` and `cm_library`, through their public functions.
 #![tactic(auto)]
 
 #[cfg(test)]
@@ -11,6 +11,8 @@ mod fused;
 pub mod held_disk;
 #[cfg(test)]
 mod holding;
+#[cfg(test)]
+mod library;
 #[cfg(test)]
 mod running;
 #[cfg(test)]

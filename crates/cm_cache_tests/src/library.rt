@@ -1,0 +1,125 @@
+//! Caches that aren't opened, and caches in files.
+
+use crate::holding::class;
+use crate::running::formatted;
+use cm_library::{
+    Cache, Counts, CreateError, FileDisk, Finished, Geometry, Naming, NotRun, OpenError, OpenFault,
+    Pass, SimDisk, Work, format, open_file, with_cache,
+};
+use std::alloc::Global;
+use std::fs;
+use std::sync::Wait;
+use std::test::*;
+
+/// Class `A`, defined in a loader of this name, if there is none yet, and looked up. The result is
+/// whether it was there before, and how many words its record has.
+#[derive(Drop)]
+struct Class(u8);
+
+impl<R: Wait> Work<R> for Class {
+    type Output = Result<(bool, u32), Fail>;
+
+    ghost may_run = { λ _. Unit {0} };
+
+    ghost keeps = { λ _ _. Unit {0} };
+
+    fn run<K: Naming>(
+        self,
+        rt: &R,
+        alloc: Global,
+        cache: &Cache<K>,
+        pass: &mut Pass<K>,
+    ) -> Result<(bool, u32), Fail> {
+        let Class(loader) = self;
+        let was_there = cache.find(rt, &[loader], b"A")?.is_some();
+        if !was_there {
+            let _first = cache.add_loader(rt, pass, &[loader])?;
+            let _second = cache.define(rt, pass, &[loader], class(alloc, b'A')?)?;
+        }
+        let found = cache.find(rt, &[loader], b"A")?.ok_or("not found")?;
+        Ok((was_there, found.words()))
+    }
+}
+
+#[test]
+fn a_disk_without_a_cache_is_handed_back_with_the_work(rt: HostRuntime) -> Result<(), Fail> {
+    let alloc = rt.alloc();
+    match with_cache(&rt, alloc, SimDisk::new(alloc), 1, Class(b'x')) {
+        Ok(
+            Finished {
+                output,
+                counts: _,
+                disk: _,
+            },
+        ) => {
+            let _found = output??;
+            Err("opened".into())
+        }
+        Err(error) => {
+            let text = format!(in alloc; "{error} {error:?}")?;
+            let NotRun {
+                fault,
+                disk,
+                work: Class(loader),
+            } = error;
+            assert_eq!(rt;
+                (fault, disk.is_some(), loader),
+                (OpenFault::NotACache, true, b'x')
+            );
+            assert_eq!(rt;
+                text.as_str(),
+                "not a cache NotRun { fault: NotACache, .. }"
+            );
+            Ok(())
+        }
+    }
+}
+
+#[test]
+fn a_closed_cache_is_opened_again(rt: HostRuntime) -> Result<(), Fail> {
+    let alloc = rt.alloc();
+    let mut disk = formatted(alloc)?;
+    for was_there in [false, true] {
+        let finished = with_cache(&rt, alloc, disk, 2, Class(b'x'))?;
+        disk = finished.disk;
+        let stored = if was_there { 0 } else { 2 };
+        assert_eq!(rt; finished.output??, (was_there, 16));
+        assert_eq!(rt;
+            (finished.counts, finished.counts.unsure()),
+            (
+                Counts {
+                    handed: stored,
+                    committed: stored,
+                    of_passes: stored,
+                    missing: 0,
+                },
+                0
+            )
+        );
+    }
+    Ok(())
+}
+
+#[test]
+fn a_file_is_opened_again_with_what_was_stored(rt: HostRuntime) -> Result<(), Fail> {
+    let alloc = rt.alloc();
+    let path = "cm_library_again.tmp";
+    let sizes = Geometry::new(8, 64, 4_096).ok_or("sizes")?;
+    format(alloc, &mut FileDisk::create(&rt, alloc, path)?, sizes)?;
+    for was_there in [false, true] {
+        let disk = open_file(&rt, path)?;
+        let Finished {
+            output,
+            counts,
+            disk: _,
+        } = with_cache(&rt, alloc, disk, 1, Class(b'y'))?;
+        assert_eq!(rt; output??, (was_there, 16));
+        assert_eq!(rt; counts.unsure(), 0);
+    }
+    let again = FileDisk::create(&rt, alloc, path);
+    assert!(rt; matches!(again, Err(CreateError::Exists)));
+    fs::remove_file(&rt, path)?;
+    let gone = open_file(&rt, path);
+    assert!(rt; matches!(gone, Err(OpenError::Device(_))));
+    Ok(())
+}
