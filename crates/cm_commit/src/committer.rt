@@ -395,6 +395,13 @@ impl<D: Disk> Committer<D> {
         self.journal.geometry
     }
 
+    /// The disk, to look at.
+    pub fn disk(&self) -> &D
+        ensures { result.now ≡ self.now.disk }
+    {
+        &self.disk
+    }
+
     /// The disk, as it is now.
     pub fn into_disk(self) -> D
         ensures { result ≡ self.disk }

@@ -74,8 +74,8 @@ pub fn build(alloc: Global, class: &Class) -> Result<Record, RecordRefusal>
 }
 
 impl Record {
-    /// Its words.
-    fn as_slice(&self) -> &[u64]
+    /// Its words, where they are: nothing is copied.
+    pub fn as_slice(&self) -> &[u64]
         ensures words { result.now ≡ self.now }
         ensures record { IsRecord result.now }
         ensures directory { 8 + first_of (get_or result.now 2 0) ≤ length result.now }

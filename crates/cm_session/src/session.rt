@@ -275,6 +275,13 @@ impl<D: Disk> Session<D> {
         self.committer.number()
     }
 
+    /// The disk, to look at.
+    pub fn disk(&self) -> &D
+        ensures { result.now ≡ self.now.committer.disk }
+    {
+        self.committer.disk()
+    }
+
     /// The disk, as it is now.
     pub fn into_disk(self) -> D
         ensures { result ≡ self.committer.disk }
