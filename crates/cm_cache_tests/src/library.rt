@@ -3,8 +3,8 @@
 use crate::holding::class;
 use crate::running::formatted;
 use cm_library::{
-    Cache, Counts, CreateError, FileDisk, Finished, Geometry, Naming, NotRun, OpenError, OpenFault,
-    Pass, SimDisk, Work, format, open_file, with_cache,
+    Cache, Counts, CreateError, Finished, Geometry, Naming, NotRun, OpenError, OpenFault, Pass,
+    SimDisk, Work, create_file, format, open_file, with_cache,
 };
 use std::alloc::Global;
 use std::fs;
@@ -105,7 +105,7 @@ fn a_file_is_opened_again_with_what_was_stored(rt: HostRuntime) -> Result<(), Fa
     let alloc = rt.alloc();
     let path = "cm_library_again.tmp";
     let sizes = Geometry::new(8, 64, 4_096).ok_or("sizes")?;
-    format(alloc, &mut FileDisk::create(&rt, alloc, path)?, sizes)?;
+    format(alloc, &mut create_file(&rt, alloc, path)?, sizes)?;
     for was_there in [false, true] {
         let disk = open_file(&rt, path)?;
         let Finished {
@@ -116,7 +116,7 @@ fn a_file_is_opened_again_with_what_was_stored(rt: HostRuntime) -> Result<(), Fa
         assert_eq!(rt; output??, (was_there, 16));
         assert_eq!(rt; counts.unsure(), 0);
     }
-    let again = FileDisk::create(&rt, alloc, path);
+    let again = create_file(&rt, alloc, path);
     assert!(rt; matches!(again, Err(CreateError::Exists)));
     fs::remove_file(&rt, path)?;
     let gone = open_file(&rt, path);

@@ -1,7 +1,7 @@
 //! Files that can't be written to.
 
 use cm_disk::{DeviceFault, Disk};
-use cm_file_disk::{FileDisk, OpenedFile};
+use cm_file_disk::FileDisk;
 use std::test::*;
 use std::{fs, io};
 
@@ -45,8 +45,8 @@ fn after_a_write_that_failed_every_call_fails(rt: HostRuntime) -> Result<(), Fai
     let path = "cm_file_disk_read_only.tmp";
     fs::write(&rt, path, b"abcdef".as_slice())?;
     for cuts in [false, true] {
-        let opened = OpenedFile::open_read_only(&rt, rt.alloc(), path)?;
-        let mut disk = FileDisk::of_file(opened.read_on(rt.alloc(), u64::MAX)?);
+        let opened = cm_file_disk::open_read_only(&rt, rt.alloc(), path)?;
+        let mut disk = FileDisk::of_opened(opened.read_on(rt.alloc(), u64::MAX)?);
         assert!(rt; holds_letters(&mut disk)?);
         assert!(rt; fails_for_good(&mut disk, cuts));
         assert_eq!(rt; fs::read_to_string(&rt, path)?.as_str(), "abcdef");

@@ -8,8 +8,8 @@ use std::test::*;
 
 /// The disk of a file with its first bytes, up to this many.
 fn open_up_to(rt: &HostRuntime, path: &str, reach: u64) -> Result<FileDisk, OpenError> {
-    let opened = OpenedFile::open(rt, rt.alloc(), path)?;
-    Ok(FileDisk::of_file(opened.read_on(rt.alloc(), reach)?))
+    let opened = cm_file_disk::open(rt, rt.alloc(), path)?;
+    Ok(FileDisk::of_opened(opened.read_on(rt.alloc(), reach)?))
 }
 
 /// Stores eight bytes with two writes, and cuts off the last one.
@@ -47,7 +47,7 @@ fn holds_seven(disk: &mut FileDisk) -> Result<bool, DeviceFault> {
 fn stored_bytes_are_read_when_it_is_opened_again(rt: HostRuntime) -> Result<(), Fail> {
     let path = "cm_file_disk_stored.tmp";
     let _ = fs::remove_file(&rt, path);
-    let mut disk = FileDisk::create(&rt, rt.alloc(), path)?;
+    let mut disk = cm_file_disk::create(&rt, rt.alloc(), path)?;
     store_seven(&mut disk)?;
     assert_eq!(rt; disk.len(), Ok(7));
     drop(disk);
@@ -86,7 +86,7 @@ fn a_write_of_many_pieces_is_written_whole(rt: HostRuntime) -> Result<(), Fail> 
     let _ = fs::remove_file(&rt, path);
     let mut bytes = Vec::from_elem(rt.alloc(), 0u8, 200_000)?;
     count_up(&mut bytes);
-    let mut disk = FileDisk::create(&rt, rt.alloc(), path)?;
+    let mut disk = cm_file_disk::create(&rt, rt.alloc(), path)?;
     assert_eq!(rt; write_behind_seven(&mut disk, &bytes)?, 200_007);
     let held = fs::read(&rt, path)?;
     assert!(rt; is_behind_seven(&held, &bytes));
@@ -167,7 +167,7 @@ fn a_long_file_is_read_as_far_as_asked(rt: HostRuntime) -> Result<(), Fail> {
         assert!(rt; is_read_up_to(&mut disk, &bytes, held)?, "up to {reach}");
         assert!(rt; grows_by_one(&mut disk)?);
     }
-    let opened = OpenedFile::open(&rt, rt.alloc(), path)?;
+    let opened = cm_file_disk::open(&rt, rt.alloc(), path)?;
     assert!(rt; begins_as(&opened, &bytes));
     fs::remove_file(&rt, path)?;
     Ok(())

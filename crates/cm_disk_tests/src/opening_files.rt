@@ -1,7 +1,7 @@
 //! What is opened or created, and what isn't.
 
 use cm_disk::Disk;
-use cm_file_disk::{CreateError, FileDisk, OpenError, OpenedFile};
+use cm_file_disk::{CreateError, OpenError};
 use std::io::{self, ErrorKind};
 use std::os::fd::AsRawFd;
 use std::os::unix::fs::symlink;
@@ -10,7 +10,7 @@ use std::{format, fs};
 
 /// Why a file isn't opened: `None` if it is no regular file, else the kind of the system's error.
 fn refuse_open(rt: &HostRuntime, path: &str) -> Result<Option<ErrorKind>, Fail> {
-    match OpenedFile::open(rt, rt.alloc(), path) {
+    match cm_file_disk::open(rt, rt.alloc(), path) {
         Ok(_) => Err(Fail::new("it is opened")),
         Err(error) => kind_of_refusal(&error),
     }
@@ -53,7 +53,7 @@ fn a_pipe_is_not_opened(rt: HostRuntime) -> Result<(), Fail> {
 fn a_file_past_the_limit_is_not_read(rt: HostRuntime) -> Result<(), Fail> {
     let path = "cm_file_disk_too_long.tmp";
     fs::File::create(&rt, path)?.set_len((1 << 40) + 1)?;
-    let answer = OpenedFile::open_read_only(&rt, rt.alloc(), path);
+    let answer = cm_file_disk::open_read_only(&rt, rt.alloc(), path);
     assert!(rt; matches!(answer, Err(OpenError::TooLong)));
     fs::remove_file(&rt, path)?;
     Ok(())
@@ -62,7 +62,7 @@ fn a_file_past_the_limit_is_not_read(rt: HostRuntime) -> Result<(), Fail> {
 /// Whether no file is created there, since something has the name.
 fn is_taken(rt: &HostRuntime, path: &str) -> bool {
     matches!(
-        FileDisk::create(rt, rt.alloc(), path),
+        cm_file_disk::create(rt, rt.alloc(), path),
         Err(CreateError::Exists)
     )
 }
@@ -79,7 +79,7 @@ fn a_name_that_is_taken_stays(rt: HostRuntime) -> Result<(), Fail> {
     assert_eq!(rt; fs::read_to_string(&rt, path)?.as_str(), "abc");
     fs::remove_file(&rt, path)?;
     fs::remove_file(&rt, link)?;
-    let answer = FileDisk::create(&rt, rt.alloc(), "no such folder/file");
+    let answer = cm_file_disk::create(&rt, rt.alloc(), "no such folder/file");
     assert!(rt; matches!(answer, Err(CreateError::Device(_))));
     Ok(())
 }
@@ -93,7 +93,7 @@ fn sendable<D: Disk + Send + Drop>(disk: D) -> D {
 fn a_disk_may_go_to_another_thread(rt: HostRuntime) -> Result<(), Fail> {
     let path = "cm_file_disk_sent.tmp";
     let _ = fs::remove_file(&rt, path);
-    let mut disk = sendable(FileDisk::create(&rt, rt.alloc(), path)?);
+    let mut disk = sendable(cm_file_disk::create(&rt, rt.alloc(), path)?);
     assert_eq!(rt; disk.len(), Ok(0));
     fs::remove_file(&rt, path)?;
     Ok(())

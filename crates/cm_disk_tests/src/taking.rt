@@ -1,7 +1,7 @@
 //! Taking words from a disk.
 
 use cm_disk::{DeviceFault, Disk, SimDisk, WordRange};
-use cm_file_disk::{FileDisk, OpenedFile};
+use cm_file_disk::FileDisk;
 use std::alloc::{AllocError, Global};
 use std::fs;
 use std::test::*;
@@ -44,8 +44,8 @@ fn words_have_the_lowest_byte_first(rt: HostRuntime) -> Result<(), Fail> {
 fn words_of_a_file_are_those_of_its_bytes(rt: HostRuntime) -> Result<(), Fail> {
     let path = "cm_file_disk_words.tmp";
     fs::write(&rt, path, BYTES.as_slice())?;
-    let opened = OpenedFile::open_read_only(&rt, rt.alloc(), path)?;
-    let mut disk = FileDisk::of_file(opened);
+    let opened = cm_file_disk::open_read_only(&rt, rt.alloc(), path)?;
+    let mut disk = FileDisk::of_opened(opened);
     for _ in 0..2 {
         assert_eq!(rt; last_two(rt.alloc(), &mut disk)??, Some(WORDS));
     }

@@ -5,7 +5,7 @@
 use anyhow::{Context, Result, bail};
 use cm_jar::Jar;
 use cm_library::{
-    Cache, FileDisk, Finished, Geometry, Naming, Pass, Work, format, open_file, prepare,
+    Cache, Finished, Geometry, Naming, Pass, Work, create_file, format, open_file, prepare,
     with_threads,
 };
 use std::alloc::Global;
@@ -63,7 +63,7 @@ where
 {
     let alloc = rt.alloc();
     let sizes = Geometry::new(8, 64, 4_096).context("sizes")?;
-    format(alloc, &mut FileDisk::create(rt, alloc, path)?, sizes)?;
+    format(alloc, &mut create_file(rt, alloc, path)?, sizes)?;
     let mut shares = Vec::new(alloc);
     for thread in 0..LOADERS.len() {
         shares.push(Share { jar, thread })?;

@@ -1,5 +1,1 @@
-pub mod State
-pub mod Calls
-pub mod Runs
-pub mod Image
-pub mod File
+pub mod Fault

@@ -3,7 +3,7 @@
 ghost use Rattle.std.specs.Prelude.{◌≡◌};
 ghost use Rattle.cm_file_disk.specs.declared.fault.OpenError.TheVariants as open_error;
 
-use std::alloc::{AllocError, AllocFailed};
+use cm_device_disk::ReadError;
 use std::io;
 use thiserror::Error;
 
@@ -32,19 +32,16 @@ impl From<io::Error> for OpenError {
     }
 }
 
-impl From<AllocError> for OpenError {
-    ghost from_gives = { λ _ e. e ≡ open_error.NoMemory };
+impl From<ReadError<io::Error>> for OpenError {
+    ghost use Rattle.cm_file_disk.specs.Fault.{open_error_of};
 
-    fn from(_error: AllocError) -> OpenError {
-        OpenError::NoMemory
-    }
-}
+    ghost from_gives = { λ error e. e ≡ open_error_of error };
 
-impl<T: Drop> From<AllocFailed<T>> for OpenError {
-    ghost from_gives = { λ _ e. e ≡ open_error.NoMemory };
-
-    fn from(_error: AllocFailed<T>) -> OpenError {
-        OpenError::NoMemory
+    fn from(error: ReadError<io::Error>) -> OpenError {
+        match error {
+            ReadError::Device(cause) => OpenError::Device(cause),
+            ReadError::NoMemory => OpenError::NoMemory,
+        }
     }
 }
 

@@ -1,14 +1,20 @@
-//! A disk over a real file, which implements the trait of all disks without assumptions.
+//! A disk over a real file.
 #![tactic(auto)]
 
-mod disk;
+mod device;
 mod fault;
-mod history;
-mod image;
 mod opening;
-mod pieces;
-mod word_run;
 
-pub use disk::FileDisk;
+use cm_device_disk::{DeviceDisk, OpenedDevice};
+pub use device::FileDevice;
 pub use fault::{CreateError, OpenError};
-pub use opening::OpenedFile;
+pub use opening::{create, open, open_read_only};
+use std::io;
+
+/// A disk over a regular file that nothing else writes to.
+///
+/// What the file holds follows the disk's contents as far as the system keeps its promises.
+pub type FileDisk = DeviceDisk<FileDevice, io::Error>;
+
+/// A regular file that was opened, and what was read of it.
+pub type OpenedFile = OpenedDevice<FileDevice>;

@@ -32,7 +32,7 @@ where
         warn(rt, "a size is outside its limits");
         return Err(Status::WrongWords);
     };
-    let mut disk = match FileDisk::create(rt, rt.alloc(), path) {
+    let mut disk = match cm_file_disk::create(rt, rt.alloc(), path) {
         Ok(disk) => disk,
         Err(CreateError::Exists) => return Err(say(rt, FormatFault::NotEmpty, Status::Refused)),
         Err(CreateError::Device(cause)) => {

@@ -9,7 +9,7 @@ mod work;
 pub use cm_cache::{Cache, Naming, Pass};
 pub use cm_commands::{Names, Prepared, Refusal, prepare};
 pub use cm_disk::{Disk, SimDisk};
-pub use cm_file_disk::{CreateError, FileDisk, OpenError};
+pub use cm_file_disk::{CreateError, FileDisk, OpenError, create as create_file};
 pub use cm_pool::Geometry;
 pub use cm_record::Record;
 pub use cm_recover::{FormatFault, OpenFault, format};

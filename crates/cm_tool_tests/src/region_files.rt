@@ -26,7 +26,7 @@ const ROOTS_AT: u64 = 36_864;
 fn make_file(rt: &HostRuntime, path: &str) -> Result<(), Fail> {
     let _ = fs::remove_file(rt, path);
     let geometry = Geometry::new(8, 64, 256).ok_or("a geometry")?;
-    let mut disk = FileDisk::create(rt, rt.alloc(), path)?;
+    let mut disk = cm_file_disk::create(rt, rt.alloc(), path)?;
     if format(rt.alloc(), &mut disk, geometry).is_err() {
         return Err("a new cache".into());
     }

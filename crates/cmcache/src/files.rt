@@ -17,7 +17,7 @@ pub fn format_file(
     path: &str,
     geometry: Geometry,
 ) -> Status {
-    let mut disk = match FileDisk::create(rt, rt.alloc(), path) {
+    let mut disk = match cm_file_disk::create(rt, rt.alloc(), path) {
         Ok(disk) => disk,
         Err(CreateError::Exists) => return say_not_made(rt, FormatFault::NotEmpty),
         Err(CreateError::Device(cause)) => {

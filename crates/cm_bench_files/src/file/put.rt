@@ -68,7 +68,7 @@ pub fn make_file(
     path: &str,
     geometry: Geometry,
 ) -> Result<()> {
-    let mut disk = FileDisk::create(rt, rt.alloc(), path)?;
+    let mut disk = cm_file_disk::create(rt, rt.alloc(), path)?;
     format(rt.alloc(), &mut disk, geometry)?;
     Ok(())
 }

@@ -1,0 +1,5 @@
+pub mod State
+pub mod Calls
+pub mod Runs
+pub mod Image
+pub mod DeviceDisk

@@ -1,0 +1,51 @@
+-- Words that were read from a device, besides its beginning.
+use Rattle.std.specs.Prelude.{◌≡◌, ◌≤◌, ◌+◌, ◌*◌, ◌^◌, ℕ, List, [], ◌∷◌, length, Option, Some, None}
+use Rattle.std.specs.Prelude.{Bool, nat_le, ◌&&◌}
+use Rattle.std.specs.Option.{ForSome}
+use Rattle.cm_words.specs.Words.{Words, words_of}
+use Rattle.cm_words.specs.Bytes.{word_bytes, packed_into}
+use Rattle.cm_disk.specs.declared.disk.WordRange.{WordRange}
+use Rattle.cm_disk.specs.Calls.{overwritten, words_in}
+use Rattle.cm_device_disk.specs.declared.word_run.WordRun.{WordRun}
+
+abbrev pub run_count : Option Words → ℕ
+run_count None = 0
+run_count (Some w) = length w.words
+
+-- where its words are; once they are taken it has none
+abbrev pub range_of : WordRun → WordRange
+range_of run = record { at = run.at; count = run_count run.words }
+
+-- ranges that lie one after another in a device of this length, from a place on
+abbrev pub are_ranges : ℕ → ℕ → List WordRange → Bool
+are_ranges from len [] = nat_le from len
+are_ranges from len (r ∷ ranges) =
+    nat_le from r.at && are_ranges (r.at + 8 * r.count) len ranges
+
+-- its words fill their buffer
+abbrev pub IsFull : WordRun → Type 0
+IsFull run = ForSome run.words (λ w. w ≡ words_of w.words (length w.words))
+
+-- its words are those that these contents have at its place
+abbrev pub IsOf : List ℕ → WordRun → Type 0
+IsOf contents run =
+    ForSome run.words (λ w. w ≡ words_of (words_in run.at (length w.words) contents)
+    (length w.words))
+
+-- the contents with the words of a run at their place
+abbrev pub with_words : ℕ → Option Words → List ℕ → List ℕ
+with_words at None contents = contents
+with_words at (Some w) contents = overwritten at (word_bytes w.words) contents
+
+abbrev pub with_runs : List WordRun → List ℕ → List ℕ
+with_runs [] contents = contents
+with_runs (r ∷ runs) contents = with_runs runs (with_words r.at r.words contents)
+
+-- its words are determined by their bytes
+abbrev pub TellsWords : WordRun → Type 0
+TellsWords run =
+    ForSome run.words (λ w. packed_into (length w.words) (word_bytes w.words) ≡ w.words)
+
+-- the range ends within the longest disk
+abbrev pub EndsInLimit : WordRange → Type 0
+EndsInLimit r = r.at + 8 * r.count ≤ 2 ^ 40
