@@ -6,6 +6,8 @@ mod calls;
 #[cfg(test)]
 mod crashes;
 #[cfg(test)]
+mod deferred;
+#[cfg(test)]
 mod failing_files;
 #[cfg(test)]
 mod faults;
