@@ -1,7 +1,9 @@
-//! Tests of scripts: lines, readers, writers, failing disks, region files, and what is reported
-//! about caches.
+//! Tests of scripts: lines, readers, writers, failing disks, region files, disks that make no
+//! calls, and what is reported about caches.
 #![tactic(auto)]
 
+#[cfg(test)]
+mod deferred;
 #[cfg(test)]
 mod disks;
 #[cfg(test)]

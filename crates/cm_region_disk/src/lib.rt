@@ -1,0 +1,8 @@
+//! Opens the device of a region file as a disk, with as much of it in memory as its cache needs.
+#![tactic(auto)]
+
+mod opening;
+mod sizes;
+
+pub use opening::disk_of;
+pub use sizes::most_bytes_a_write;
