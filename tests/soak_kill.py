@@ -48,12 +48,12 @@ def parse(lines):
     return threads
 
 
-def killed(words, stream, delay):
+def killed(words, stream, delay, env=None):
     """Runs the program and kills it this many seconds after its first line: its whole lines of
     output, and whether the kill hit it."""
     with open(stream, "rb") as given:
         process = subprocess.Popen(words, stdin=given, stdout=subprocess.PIPE,
-                                   stderr=subprocess.DEVNULL)
+                                   stderr=subprocess.DEVNULL, env=env)
     first = process.stdout.readline()
     timer = threading.Timer(delay, process.kill)
     timer.start()
@@ -109,16 +109,25 @@ def check_file(checks, name, path, threads):
     return len(numbers), stored - len(numbers)
 
 
-def kill_once(checks, program, bench, folder, count, rng):
+def new_file(checks, program, folder):
+    """A new file, and one with the classes that the threads define."""
     path, stream = f"{folder}/cache", f"{folder}/classes"
     words = ["--top", str(soak.GEOMETRY.top), "--roots", str(soak.GEOMETRY.roots),
              "--slots", str(soak.GEOMETRY.slots)]
     checks.check("format", runs.run(program, ["format", path, *words]) == ([b"ok"], 0, ""))
     with open(stream, "wb") as out:
         out.write(b"".join(len(data).to_bytes(4, "big") + data for data in soak.CLASSES))
+    return path, stream
+
+
+def words_of(bench, path, count):
+    return [bench, "soak", path, "--live", "--threads", str(count), "--seconds", str(SECONDS)]
+
+
+def kill_once(checks, program, bench, folder, count, rng):
+    path, stream = new_file(checks, program, folder)
     delay = rng.uniform(0, LONGEST)
-    lines, was_hit = killed([bench, "soak", path, "--live", "--threads", str(count), "--seconds",
-                             str(SECONDS)], stream, delay)
+    lines, was_hit = killed(words_of(bench, path, count), stream, delay)
     name = f"killed after {delay:.3f} s"
     checks.check(f"{name}: it was running", was_hit)
     told = check_file(checks, name, path, parse(lines))

@@ -3,10 +3,10 @@
 # if a device call fails, and replies to each line before the next one arrives; a run with workers
 # that is killed keeps what it acknowledged; and threads that define, find and unload in one file at
 # once get the replies that one thread would get, and leave the file in accordance with them, also
-# if they are killed.
+# if they are killed, or the machine stops and loses what wasn't synced.
 # SCRIPTS=N runs N random scripts instead of 1,000, KILLS=N kills N runs instead of 50, SOAK=N has
-# the threads work for N seconds instead of one, SEED=N uses other scripts and moments. Needs a C
-# compiler and Python 3.
+# the threads work for N seconds instead of one, MOMENTS=N stops the machine at N moments instead of
+# 50, SEED=N uses other scripts and moments. Needs a C compiler and Python 3.
 set -u
 cd "$(dirname "$0")/.." || exit 1
 . tests/lib.sh
@@ -40,6 +40,11 @@ cat "$work/told"
 WORK=$quick python3 tests/soak_kill.py "$(executable)" "$bench" 16 "${KILLS:-50}" "$seed" \
     >"$work/told"
 check_last "sixteen threads on one file that are killed"
+cat "$work/told"
+
+WORK=$quick python3 tests/soak_stop.py "$(executable)" "$bench" "$library" 16 "${MOMENTS:-50}" \
+    "$seed" >"$work/told"
+check_last "sixteen threads on one file of a machine that stops"
 cat "$work/told"
 
 finish
