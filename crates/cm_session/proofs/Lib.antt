@@ -1,6 +1,7 @@
 -- Crates above may cite only those of these proofs that `pub use` passes on; all else is private.
 mod Queued
 mod Learnt
+mod Past
 mod Commands
 mod Handing
 mod Shown
@@ -10,3 +11,5 @@ mod Stored
 mod Committed
 -- What a crash may leave of a session's disk.
 pub use Shown.{leaves_so}
+-- What is under way.
+pub use Stepping.{none_under}

@@ -1,5 +1,5 @@
 -- What a crash may leave of a session's disk.
--- For `Session::advance`, `Session::images` and others.
+-- For `Session::advance`, `Session::committed`, `Session::images` and others.
 use Rattle.std.proofs.Common.{◌≡◌, ℕ, ◌+◌, ◌≤◌, List, [], ◌∷◌, ◌++◌, length, map, inl, inr, refl}
 use Rattle.std.proofs.Common.{Bool, Option, Some, None, sym, ap, subst, ◌∙◌, arith, append_assoc}
 use Rattle.std.specs.Prelude.{◌⊎◌}
@@ -18,7 +18,7 @@ use Rattle.cm_state.specs.Stands.{EachKeepsRules, arenas_among}
 use Rattle.cm_commit.specs.Offers.{filled, rows_after_group}
 use Rattle.cm_guards.specs.Stages.{Stage, Store, Turn, MakeDurable, Cut, turned, leaves}
 use Rattle.cm_commit.specs.States.{Work, Storing, Trimming, CommitterState, ShowsCache, ShowsWith}
-use Rattle.cm_commit.specs.States.{MayLeave}
+use Rattle.cm_commit.specs.States.{NoGroup, ShowsCommitted, MayLeave}
 use Rattle.cm_front.specs.Front.{FrontState}
 use Rattle.cm_handover.specs.Ahead.{pending}
 use Rattle.cm_commands.specs.Machine.{Machine, accepted_to}
@@ -68,6 +68,21 @@ either (Store writes ∷ stages) before after image l = inl l
 either (Turn gate byte ∷ stages) before after image l = at_gate stages before after image l
 either (MakeDurable ∷ stages) before after image l = at_gate stages before after image l
 either (Cut len ∷ stages) before after image l = inl l
+
+without_group : {D : Type 0} (s : CommitterState D) (u : Option Work) → NoGroup u
+    → (image : List ℕ) → ShowsWith s u image → ShowsCommitted s image
+without_group s None none image shows = shows
+without_group s (Some Trimming) none image shows = shows
+without_group s (Some (Storing group)) none image shows = absurd none
+
+-- while no group is stored, a crash leaves what is committed
+pub shows_committed : {D : Type 0} (s : CommitterState D) → NoGroup s.underway → (image : List ℕ)
+    → MayLeave s image → ShowsCommitted s image
+shows_committed s none image l =
+    elim (either s.left (ShowsCommitted s) (ShowsWith s s.underway) image l) [
+      | inl shows ↦ shows
+      | inr shows ↦ without_group s s.underway none image shows
+    ]
 
 module _ {D : Type 0} (committed : CommittedFollows) (counted : CommandsAreCounted)
     (after : RowsAreAfter) (k : Machine) (front : FrontState) (committer : CommitterState D)

@@ -59,7 +59,8 @@ may_take view waiting old new group calls counted none all (Err e) takes taken s
 
 -- ---- what is under way
 
-none_under : (u : Option Work) (left : List Stage) → IsBusyWith u left → left ≡ [] → u ≡ None
+-- nothing is under way if no call is left
+pub none_under : (u : Option Work) (left : List Stage) → IsBusyWith u left → left ≡ [] → u ≡ None
 none_under None left busy none = refl
 none_under (Some work) left busy none =
     absurd (let calls = ap calls_left none in omega (arith, busy, calls))

@@ -3,7 +3,7 @@ use Rattle.std.specs.Prelude.{◌≡◌, ℕ, ◌<◌, ◌⊎◌, ◌||◌, Bool
 use Rattle.std.specs.Prelude.{Option, Some, None, Result, Ok, Err}
 use Rattle.cm_class.specs.declared.class_file.ClassFile.{ClassFile}
 use Rattle.cm_pool.specs.Geometry.{Sizes}
-use Rattle.cm_disk.specs.Disk.{View, Unsynced, IsDurable}
+use Rattle.cm_disk.specs.Disk.{View, IsDurable}
 use Rattle.cm_state.specs.Step.{Change}
 use Rattle.cm_state.specs.Stands.{Arenas, Stands}
 use Rattle.cm_commands.specs.declared.refusal.Refusal.{Refusal}
@@ -14,7 +14,7 @@ use Rattle.cm_commit.specs.declared.progress.Progress.{Progress}
 use Rattle.cm_commit.specs.declared.progress.Progress.TheVariants.{Idle, Working, Done, Trimmed}
 use Rattle.cm_commit.specs.declared.progress.AdvanceFault.{AdvanceFault}
 use Rattle.cm_commit.specs.declared.progress.AdvanceFault.TheVariants.{Device, Broken}
-use Rattle.cm_group.specs.Groups.{Handed}
+use Rattle.cm_group.specs.Groups.{Carried, Handed}
 use Rattle.cm_guards.specs.Stages.{calls_left}
 use Rattle.cm_commit.specs.States.{CommitterState, with_taken}
 use Rattle.cm_commit.specs.Advances.{Advances}
@@ -26,7 +26,8 @@ use Rattle.cm_commands.specs.Machine.{Reopens, accepted_to, machine_from}
 use Rattle.cm_session.specs.declared.session.Session.{Session}
 use Rattle.cm_session.specs.declared.session.Sealed.{Sealed}
 use Rattle.cm_session.specs.Images.{StandsFor}
-use Rattle.cm_session.specs.Session.{NoneContinues, IsSession}
+use Rattle.cm_session.specs.Session.{of_underway, commands_of, NoneContinues, IsSession}
+use Rattle.cm_session.specs.Session.{Past, IsPast}
 
 -- the session matches the machine
 abbrev pub SessionMatches : {D : Type 0} → Machine → Session D → Type 0
@@ -37,6 +38,26 @@ pub record ReachesMachine (Does Matching : Machine → Type 0) : Type 0 where
   pub next : Machine
   pub does : Does next
   pub matches : Matching next
+
+-- ---- what was learnt
+
+-- the commands that were handed out and aren't stored yet, oldest first
+abbrev pub unstored : {D : Type 0} → Session D → List Carried
+unstored s = commands_of (of_underway s.committer.underway ++ s.queue.groups.items)
+
+-- This is what the session's accepted cache has learnt, and what was stored since.
+abbrev pub HasPast : {D : Type 0} → Past → Session D → Type 0
+HasPast p s = IsPast p s.committer.rows s.committer.number (unstored s) s.front
+
+-- all that is stored was just learnt
+abbrev pub just_learnt : {D : Type 0} → Session D → Past
+just_learnt s = record { known = s.committer.rows; since = [] }
+
+-- The oldest commands are stored now, or none, and nothing was learnt.
+pub record PastGrows {D : Type 0} (p : Past) (old new : Session D) : Type 0 where
+  pub stored : List Carried
+  pub oldest : unstored old ≡ stored ++ unstored new
+  pub past : HasPast (record { known = p.known; since = p.since ++ stored }) new
 
 -- ---- accepting
 

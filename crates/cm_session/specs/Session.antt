@@ -41,16 +41,24 @@ abbrev pub IsBusyWith : Option Work → List Stage → Type 0
 IsBusyWith None left = left ≡ []
 IsBusyWith (Some work) left = 1 ≤ calls_left left
 
--- Rows are committed with this number. What was stored since the accepted cache last learnt this
--- leads to them from the rows that it learnt of; and at each number from the learnt one on, no word
--- is free that rows use.
-pub record IsAheadOfLearnt (rows : List (Row (List ℕ))) (number : ℕ) (out : List Carried)
-    (front : FrontState) : Type 0 where
+-- what the accepted cache has learnt to be committed: the rows then, and what was stored since
+pub record Past : Type 0 where
   pub known : List (Row (List ℕ))
   pub since : List Carried
-  pub number_is : front.learnt + length since ≡ number
-  pub rows_are : rows_after_group known since ≡ rows
-  pub ahead : IsAhead known front.learnt (since ++ out) front
+
+-- Rows are committed with this number. What was stored since leads to them from the rows that were
+-- learnt; and at each number from the learnt one on, no word is free that rows use.
+pub record IsPast (p : Past) (rows : List (Row (List ℕ))) (number : ℕ) (out : List Carried)
+    (front : FrontState) : Type 0 where
+  pub number_is : front.learnt + length p.since ≡ number
+  pub rows_are : rows_after_group p.known p.since ≡ rows
+  pub ahead : IsAhead p.known front.learnt (p.since ++ out) front
+
+-- the same of some rows that were learnt
+pub record IsAheadOfLearnt (rows : List (Row (List ℕ))) (number : ℕ) (out : List Carried)
+    (front : FrontState) : Type 0 where
+  pub past : Past
+  pub is : IsPast past rows number out front
 
 -- ---- the session
 

@@ -17,7 +17,8 @@ use Rattle.cm_session.specs.declared.session.Session.{Session}
 use Rattle.cm_session.specs.declared.storing.NotStored.{NotStored}
 use Rattle.cm_session.specs.declared.storing.NotStored.TheVariants.{Refused, Unsure}
 use Rattle.cm_session.specs.Images.{StandsForSome}
-use Rattle.cm_session.specs.Moves.{ReachesMachine, Answers}
+use Rattle.cm_session.specs.Session.{Past}
+use Rattle.cm_session.specs.Moves.{ReachesMachine, Answers, just_learnt}
 
 abbrev pub IsWorking : Result Progress AdvanceFault → Type 0
 IsWorking result = result ≡ Ok Working
@@ -93,6 +94,12 @@ abbrev pub TellsFront : {D : Type 0} → Session D → Result ℕ NotStored → 
 TellsFront old (Ok number) new = new.front.learnt ≡ new.committer.number
 TellsFront old (Err (Refused r)) new = new.front ≡ old.front
 TellsFront old (Err (Unsure number)) new = new.front.learnt ≡ new.committer.number
+
+-- what was learnt after that, and what was stored since
+abbrev pub past_told : {D : Type 0} → Past → Result ℕ NotStored → Session D → Past
+past_told p (Ok number) new = just_learnt new
+past_told p (Err (Refused r)) new = p
+past_told p (Err (Unsure number)) new = just_learnt new
 
 -- no device call is made
 abbrev pub MakesNoCall : Result ℕ NotStored → Type 0

@@ -4,7 +4,7 @@ ghost use Rattle.std.specs.Prelude.{◌≡◌, false};
 ghost use Rattle.cm_guards.specs.Calls.{LeavesOnly};
 ghost use Rattle.cm_commands.specs.Machine.{Machine};
 ghost use Rattle.cm_session.specs.Images.{StandsForSome};
-ghost use Rattle.cm_session.specs.Moves.{SessionMatches, ReachesMachine};
+ghost use Rattle.cm_session.specs.Moves.{SessionMatches, ReachesMachine, HasPast, just_learnt};
 ghost use Rattle.cm_session.specs.Committing.{IsCaughtUp, all_handed, StoresHanded, Commits};
 ghost use Rattle.cm_session.specs.Committing.{CommitsUnlearnt, TellsFailure};
 
@@ -75,6 +75,8 @@ impl<D: Disk> Session<D> {
         ensures cause { (k : Machine) → SessionMatches k self.old → IsCaughtUp k
             → TellsFailure (D.view.failures self.old.committer.disk)
             (D.view.failures self.new.committer.disk) result }
+        ensures past { (k : Machine) → SessionMatches k self.old → IsCaughtUp k
+            → HasPast (just_learnt self.new) self.new }
         ensures sizes { self.new.committer.sizes ≡ self.old.committer.sizes }
     {
         let stored = self.store_groups();

@@ -1,6 +1,6 @@
 //! Opens a file for a session.
 
-ghost use Rattle.std.specs.Prelude.{IfOk, IfErr};
+ghost use Rattle.std.specs.Prelude.{◌≡◌, None, IfOk, IfErr};
 ghost use Rattle.cm_pool.specs.Geometry.{Sizes};
 ghost use Rattle.cm_verdict.specs.Verdict.{verdict};
 ghost use Rattle.cm_recover.specs.Opening.{IsFaultIn};
@@ -8,6 +8,7 @@ ghost use Rattle.cm_recover.specs.Opened.{OpensThrough};
 ghost use Rattle.cm_commands.specs.Machine.{Machine};
 ghost use Rattle.cm_session.specs.Images.{StandsForSome};
 ghost use Rattle.cm_session.specs.Moves.{Opened, SessionBegins, IsOutside, disk_of, MeetsDevice};
+ghost use Rattle.cm_session.specs.Moves.{HasPast, just_learnt};
 
 use crate::laws::held_cache_begins_machine;
 use crate::queue::Queue;
@@ -30,6 +31,8 @@ pub fn open<D: Disk>(alloc: Global, disk: D) -> Result<Session<D>, NotOpened<D>>
     ensures opened { (sizes : Sizes) (k : Machine) → StandsForSome sizes k (D.view.contents disk)
         → IfOk result (Opened D.view sizes (D.view.contents disk) k) }
     ensures begins { IfOk result (SessionBegins (D.view.contents disk)) }
+    ensures past { IfOk result (λ s. HasPast (just_learnt s) s) }
+    ensures idle { IfOk result (λ s. s.committer.underway ≡ None) }
     ensures stands { (sizes : Sizes) (k : Machine) → StandsForSome sizes k (D.view.contents disk)
         → IfErr result (λ e. IsOutside e.fault) }
     ensures fault { IfErr result (λ e. IsFaultIn e.fault (verdict (D.view.contents disk))) }

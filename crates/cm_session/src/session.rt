@@ -9,13 +9,15 @@ ghost use Rattle.cm_layout.specs.Laws.{IsNewest};
 ghost use Rattle.cm_commands.specs.Commands.{change_asked};
 ghost use Rattle.cm_front.specs.Accepting.{FrontAnswers};
 ghost use Rattle.cm_commit.specs.Advances.{CallsDevice, EndsBehind, HasRisen};
-ghost use Rattle.cm_commit.specs.States.{BeginsTrim};
+ghost use Rattle.cm_commit.specs.States.{BeginsTrim, NoGroup, ShowsCommitted};
 ghost use Rattle.cm_commands.specs.Machine.{Machine};
 ghost use Rattle.cm_handover.specs.Laws.{Finds};
 ghost use Rattle.cm_session.specs.Images.{StandsForSome};
 ghost use Rattle.cm_session.specs.Moves.{SessionMatches, ReachesMachine, Accepting, Sealing};
 ghost use Rattle.cm_session.specs.Moves.{Queues, Advancing};
 ghost use Rattle.cm_session.specs.Moves.{Learns, IsAsked, IsNoCall, is_device, MayTake, Steps};
+ghost use Rattle.cm_session.specs.Moves.{HasPast, PastGrows, just_learnt, unstored};
+ghost use Rattle.cm_session.specs.Session.{Past};
 
 use crate::joining::join_queued;
 use crate::queue::Queue;
@@ -97,6 +99,8 @@ impl<D: Disk> Session<D> {
             (λ next. SessionMatches next self.new) }
         ensures as_front { FrontAnswers self.old.front (change_asked command.entry) result
             self.new.front }
+        ensures past { (k : Machine) (p : Past) → SessionMatches k self.old → HasPast p self.old
+            → HasPast p self.new }
         ensures disk { self.new.committer ≡ self.old.committer }
     {
         commands_follow_the_machine();
@@ -118,6 +122,8 @@ impl<D: Disk> Session<D> {
             self.new.queue.groups.items }
         ensures place { (k : Machine) → SessionMatches k self.old → k.acknowledged ≡ k.sealed
             → IsOk result }
+        ensures past { (k : Machine) (p : Past) → SessionMatches k self.old → HasPast p self.old
+            → HasPast p self.new }
         ensures disk { self.new.committer ≡ self.old.committer }
     {
         committed_rows_are_the_machines();
@@ -151,6 +157,11 @@ impl<D: Disk> Session<D> {
         ensures sizes { self.new.committer.sizes ≡ self.old.committer.sizes }
         ensures takes { MayTake D.view self.new.queue.groups.items self.old.committer
             self.new.committer }
+        ensures unstored { (k : Machine) → SessionMatches k self.old
+            → unstored self.new ≡ unstored self.old }
+        ensures past { (k : Machine) (p : Past) → SessionMatches k self.old → HasPast p self.old
+            → HasPast p self.new }
+        ensures accepted { self.new.front ≡ self.old.front }
     {
         handed_groups_are_next();
         if self.has_failed {
@@ -182,6 +193,9 @@ impl<D: Disk> Session<D> {
         ensures sizes { self.new.committer.sizes ≡ self.old.committer.sizes }
         ensures steps { Steps D.view self.new.queue.groups.items self.old.committer result
             self.new.committer }
+        ensures past { (k : Machine) (p : Past) → SessionMatches k self.old → HasPast p self.old
+            → PastGrows p self.old self.new }
+        ensures accepted { self.new.front ≡ self.old.front }
         ensures trimmed { EndsBehind self.new.committer.sizes
             (D.view.contents self.new.committer.disk) (D.view.unsynced self.new.committer.disk)
             result }
@@ -201,6 +215,8 @@ impl<D: Disk> Session<D> {
         ensures sound { (k : Machine) → SessionMatches k self.old → IsOk result → k.failed ≡ false }
         ensures as_committer { BeginsTrim D.view self.old.committer result
             self.new.committer }
+        ensures past { (p : Past) → HasPast p self.old → HasPast p self.new }
+        ensures accepted { self.new.front ≡ self.old.front }
         ensures disk { self.new.committer.disk ≡ self.old.committer.disk }
         ensures sizes { self.new.committer.sizes ≡ self.old.committer.sizes }
     {
@@ -226,6 +242,8 @@ impl<D: Disk> Session<D> {
             → ReachesMachine (Learns k result) (λ next. SessionMatches next self.new) }
         ensures told { (k : Machine) → SessionMatches k self.old
             → self.new.front.learnt ≡ self.new.committer.number }
+        ensures past { (k : Machine) → SessionMatches k self.old
+            → HasPast (just_learnt self.new) self.new }
         ensures disk { self.new.committer ≡ self.old.committer }
     {
         ahead_stays_ahead();
@@ -256,6 +274,16 @@ impl<D: Disk> Session<D> {
             (StandsForSome self.now.committer.sizes k) }
     {
         committed_rows_are_the_machines();
+        self.committer.images();
+    }
+
+    /// Does nothing: its clause says that while no group is stored, whatever a crash leaves now
+    /// shows what is committed.
+    pub fn committed(&self)
+        ensures { NoGroup self.now.committer.underway
+            → EachImage (D.view.contents self.now.committer.disk)
+            (D.view.unsynced self.now.committer.disk) (ShowsCommitted self.now.committer) }
+    {
         self.committer.images();
     }
 
@@ -304,6 +332,7 @@ impl Session<SimDisk> {
           disk = record self.old.committer.disk { armed = Some stores };
         } }
         ensures machine { (k : Machine) → SessionMatches k self.old → SessionMatches k self.new }
+        ensures past { (p : Past) → HasPast p self.old → HasPast p self.new }
     {
         self.committer.arm(stores);
     }
@@ -314,6 +343,7 @@ impl Session<SimDisk> {
           disk = record self.old.committer.disk { armed = None };
         } }
         ensures machine { (k : Machine) → SessionMatches k self.old → SessionMatches k self.new }
+        ensures past { (p : Past) → HasPast p self.old → HasPast p self.new }
     {
         self.committer.disarm();
     }

@@ -8,8 +8,11 @@ ghost use Rattle.cm_commit.specs.Advances.{HasRisen};
 ghost use Rattle.cm_commands.specs.Machine.{Machine};
 ghost use Rattle.cm_session.specs.Images.{StandsForSome};
 ghost use Rattle.cm_session.specs.Moves.{SessionMatches, ReachesMachine, Advancing};
+ghost use Rattle.cm_session.specs.Moves.{HasPast};
+ghost use Rattle.cm_session.specs.Session.{Past};
 ghost use Rattle.cm_session.specs.Storing.{IsWorking, IsAtRest, Storing, FailsOnly, MakesNoCall};
-ghost use Rattle.cm_session.specs.Storing.{TellsFront, HasTrimmed, NoTrim, refusal_told};
+ghost use Rattle.cm_session.specs.Storing.{TellsFront, HasTrimmed, NoTrim, past_told};
+ghost use Rattle.cm_session.specs.Storing.{refusal_told};
 
 use crate::session::Session;
 use cm_commands::{Command, Refusal};
@@ -116,6 +119,8 @@ impl<D: Disk> Session<D> {
             → TellsFront self.old result self.new }
         ensures refused { (refusal : Refusal) → result ≡ Err (NotStored.Refused refusal)
             → IsReason self.old.front (change_asked command.entry) refusal }
+        ensures past { (k : Machine) (p : Past) → SessionMatches k self.old → IsAtRest k
+            → HasPast p self.old → HasPast (past_told p result self.new) self.new }
         ensures no_call { MakesNoCall result → self.new.committer ≡ self.old.committer }
         ensures sizes { self.new.committer.sizes ≡ self.old.committer.sizes }
     {

@@ -1,4 +1,4 @@
-use Rattle.std.proofs.Common.{ℕ, List, [], sym, subst, false}
+use Rattle.std.proofs.Common.{ℕ, List, [], sym, ap, subst, ◌∙◌, false}
 use Rattle.cm_group.specs.Groups.{Handed}
 use Rattle.cm_pool.specs.Geometry.{Sizes}
 use Rattle.cm_state.specs.Stands.{Stands}
@@ -6,7 +6,11 @@ use Rattle.cm_verdict.specs.Verdict.{state_in, arenas_in}
 use Rattle.cm_commands.specs.Machine.{Base, Machine, machine_from}
 use Rattle.cm_session.specs.Moves.{ReachesMachine, Reopening}
 use Rattle.cm_session.specs.Session.{IsSession}
+use Rattle.cm_front.specs.Front.{FrontState}
+use Rattle.cm_commit.specs.States.{CommitterState}
 use Rattle.cm_session.proofs.Reopened.{reopened, same_sizes, is_outside, fresh}
+use Rattle.cm_session.proofs.Learnt.{past_learnt}
+use Rattle.cm_session.proofs.Past.{out_of}
 use Rattle.cm_session.proofs.opening.open.Goals as goal
 
 pub returns-in-Err-clause-stands : goal.returns-in-Err-clause-stands
@@ -62,3 +66,17 @@ returns-clause-begins g c =
           c.in-Ok.queue.groups.items c.number-sealed.result false) (fresh base o.reaches.does.number
           o.reaches.next o.reaches.does.reopens) o.reaches.matches;
     }
+
+pub returns-clause-past : goal.returns-clause-past
+returns-clause-past g c =
+    let front = c.in-Ok-open.opened.0 in
+    let committer = c.in-Ok-open.opened.1 in
+    let opens = c.in-Ok-open.ensures.opened in
+    past_learnt committer.rows committer.number (out_of committer c.in-Ok.queue.groups.items) front
+    (ap (λ (f : FrontState). f.learnt) opens.front_is.front_is
+    ∙ sym (ap (λ (m : CommitterState _). m.number) opens.committer_is))
+    (returns-clause-begins g c).matches.ahead
+
+pub returns-clause-idle : goal.returns-clause-idle
+returns-clause-idle g c =
+    ap (λ (m : CommitterState _). m.underway) c.in-Ok-open.ensures.opened.committer_is

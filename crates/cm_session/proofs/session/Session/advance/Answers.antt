@@ -1,4 +1,4 @@
-use Rattle.std.proofs.Common.{Bool, subst, sym}
+use Rattle.std.proofs.Common.{Bool, subst, sym, ◌∙◌}
 use Rattle.cm_pool.specs.Geometry.{Sizes}
 use Rattle.cm_guards.specs.Calls.{LeavesOnly}
 use Rattle.cm_commit.specs.Advances.{CallsDevice}
@@ -8,6 +8,7 @@ use Rattle.cm_session.specs.Moves.{ReachesMachine, Advancing}
 use Rattle.cm_session.specs.Session.{IsSession}
 use Rattle.cm_session.proofs.Shown.{stands_for_some, leaves_so}
 use Rattle.cm_session.proofs.Stepping.{advanced}
+use Rattle.cm_session.proofs.Past.{past_advanced}
 use Rattle.cm_session.proofs.session.Session.advance.Goals as goal
 
 pub returns-clause-machine : goal.returns-clause-machine
@@ -48,3 +49,16 @@ returns-clause-steps g c = record {
   takes = c.offer_next.ensures.takes;
   moved = c.advance-progress.ensures.moved;
 }
+
+pub returns-clause-past : goal.returns-clause-past
+returns-clause-past g c =
+    let s = c.offer_next.new.self in
+    λ k p i h.
+    let grown = past_advanced p s.front s.committer c.advance-progress.new.self s.queue.groups.items
+    (c.offer_next.ensures.past k p i h) c.advance-progress.result
+    c.advance-progress.ensures.moved in
+    record {
+      stored = grown.stored;
+      oldest = sym (c.offer_next.ensures.unstored k i) ∙ grown.oldest;
+      past = grown.past;
+    }

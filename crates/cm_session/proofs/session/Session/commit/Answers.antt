@@ -29,3 +29,9 @@ returns-clause-cause g c =
     subst (λ (b : CommitterState _). TellsFailure (failures fn.disk) (failures b.disk)
     c.store_groups-stored.result) (sym c.learn.ensures.disk)
     (c.store_groups-stored.ensures.cause k i caught)
+
+pub returns-clause-past : goal.returns-clause-past
+returns-clause-past g c =
+    λ k i caught.
+    let all = c.store_groups-stored.ensures.machine k i caught in
+    c.learn.ensures.past all.next all.matches

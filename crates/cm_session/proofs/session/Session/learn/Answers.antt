@@ -6,6 +6,8 @@ use Rattle.cm_session.specs.declared.session.Session.{Session}
 use Rattle.cm_session.specs.Moves.{ReachesMachine, Learns}
 use Rattle.cm_session.specs.Session.{IsSession}
 use Rattle.cm_session.proofs.Handing.{learns, on_ok}
+use Rattle.cm_session.proofs.Learnt.{past_learnt}
+use Rattle.cm_session.proofs.Past.{out_of}
 use Rattle.cm_session.proofs.session.Session.learn.Goals as goal
 
 pub returns-clause-machine : goal.returns-clause-machine
@@ -50,3 +52,10 @@ returns-clause-told g c =
     c.learn-known.ensures.ok in
     let then = ap (λ (f : FrontState). f.learnt) known in
     omega (arith, then, before, number, here, least)
+
+pub returns-clause-past : goal.returns-clause-past
+returns-clause-past g c =
+    let n = c.notice.new.self in
+    λ k i. past_learnt n.committer.rows n.committer.number
+    (out_of n.committer n.queue.groups.items) c.learn-known.new.self
+    (returns-clause-told g c k i) (returns-clause-machine g c k i).matches.ahead

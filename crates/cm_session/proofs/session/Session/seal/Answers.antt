@@ -1,9 +1,10 @@
 use Rattle.std.proofs.Common.{List, ◌∷◌, [], ◌++◌, ◌+◌, ◌-◌, ap, refl, subst, sym, ◌∙◌}
 use Rattle.cm_group.specs.Groups.{Handed}
 use Rattle.cm_front.specs.Front.{FrontState}
-use Rattle.cm_session.specs.Session.{IsSession}
 use Rattle.cm_session.proofs.Handing.{hands_as, none_waits, some_wait, none_left, none_queued}
 use Rattle.cm_session.proofs.Handing.{not_full, on_err}
+use Rattle.cm_session.specs.Session.{IsSession}
+use Rattle.cm_session.proofs.Past.{PastOf, past_queued}
 use Rattle.cm_session.proofs.session.Session.seal.Goals as goal
 
 pub returns-then-number-self-clause-machine : goal.returns-then-number-self-clause-machine
@@ -84,3 +85,33 @@ returns-clause-queued g c = (
   c.push_back_reserved.ensures.items
       ∙ ap (λ (q : List Handed). q ++ c.in-Some.group ∷ []) c.reserve.ensures.items,
 )
+
+pub returns-then-number-self-clause-past : goal.returns-then-number-self-clause-past
+returns-then-number-self-clause-past g c =
+    let s = c.args.self.now in
+    λ k p i h. subst (λ (q : List Handed). PastOf p s.front s.committer q)
+    (sym c.reserve.ensures.items) h
+
+pub returns-else-number-self-clause-past : goal.returns-else-number-self-clause-past
+returns-else-number-self-clause-past g c =
+    let s = c.args.self.now in
+    λ k p i h. subst (λ (q : List Handed). PastOf p s.front s.committer q)
+    (sym c.reserve.ensures.items) h
+
+pub returns-in_default-clause-past : goal.returns-in_default-clause-past
+returns-in_default-clause-past g c =
+    let s = c.args.self.now in
+    λ k p i h.
+    subst (λ (f : FrontState). PastOf p f s.committer c.reserve.new.self.items)
+    (sym c.in_default.ensures.1)
+    (subst (λ (q : List Handed). PastOf p s.front s.committer q) (sym c.reserve.ensures.items) h)
+
+pub returns-clause-past : goal.returns-clause-past
+returns-clause-past g c =
+    let s = c.args.self.now in
+    let group = c.in-Some.group in
+    λ k p i h. past_queued p s.front c.seal.new.self s.committer s.queue.groups.items
+    c.push_back_reserved.new.self.items group h c.ahead_stays_ahead.ensures.handed i.is
+    c.in-Some.ensures
+    (c.push_back_reserved.ensures.items
+    ∙ ap (λ (q : List Handed). q ++ group ∷ []) c.reserve.ensures.items)

@@ -153,3 +153,41 @@ returns-in-Err-progress-clause-told g c =
     (c.seal.ensures.machine a.reaches.next a.reaches.matches) in
     let lost = c.in-Err-progress.ensures.machine h with_it in
     c.learn.ensures.told lost.next lost.matches
+
+pub returns-in-Err-clause-past : goal.returns-in-Err-clause-past
+returns-in-Err-clause-past g c = λ k p matches rest h. c.in-Err.ensures.past k p matches h
+
+pub returns-then-is_err-clause-past : goal.returns-then-is_err-clause-past
+returns-then-is_err-clause-past g c =
+    let sizes = c.args.self.now.committer.sizes in
+    λ k p matches rest h.
+    let a = c.in-Ok.ensures.machine k matches in
+    no_place c.seal.result c.if-is_err.ensures.value
+    (c.seal.ensures.place a.reaches.next a.reaches.matches
+    (all_stored sizes k a.change c.in-Ok.number a.reaches.next rest a.reaches.does))
+
+pub returns-in-Ok-progress-clause-past : goal.returns-in-Ok-progress-clause-past
+returns-in-Ok-progress-clause-past g c =
+    let sizes = c.args.self.now.committer.sizes in
+    λ k p matches rest past.
+    let a = c.in-Ok.ensures.machine k matches in
+    let h = handed sizes k a.change c.in-Ok.number a.reaches.next rest a.reaches.does in
+    let with_it = sealed sizes k a.change c.in-Ok.number a.reaches.next rest a.reaches.does
+    c.seal.result (c.seal.ensures.place a.reaches.next a.reaches.matches
+    (all_stored sizes k a.change c.in-Ok.number a.reaches.next rest a.reaches.does))
+    (c.seal.ensures.machine a.reaches.next a.reaches.matches) in
+    let stored = c.in-Ok-progress.ensures.machine h with_it in
+    c.learn.ensures.past stored.next stored.matches
+
+pub returns-in-Err-progress-clause-past : goal.returns-in-Err-progress-clause-past
+returns-in-Err-progress-clause-past g c =
+    let sizes = c.args.self.now.committer.sizes in
+    λ k p matches rest past.
+    let a = c.in-Ok.ensures.machine k matches in
+    let h = handed sizes k a.change c.in-Ok.number a.reaches.next rest a.reaches.does in
+    let with_it = sealed sizes k a.change c.in-Ok.number a.reaches.next rest a.reaches.does
+    c.seal.result (c.seal.ensures.place a.reaches.next a.reaches.matches
+    (all_stored sizes k a.change c.in-Ok.number a.reaches.next rest a.reaches.does))
+    (c.seal.ensures.machine a.reaches.next a.reaches.matches) in
+    let lost = c.in-Err-progress.ensures.machine h with_it in
+    c.learn.ensures.past lost.next lost.matches

@@ -1,5 +1,6 @@
 use Rattle.std.proofs.Common.{◌∙◌}
 use Rattle.cm_session.proofs.Stepping.{trim_begins, trim_disk, trim_sizes, trim_sound}
+use Rattle.cm_session.proofs.Past.{past_trim}
 use Rattle.cm_session.proofs.session.Session.trim.Goals as goal
 
 pub returns-clause-machine : goal.returns-clause-machine
@@ -23,3 +24,9 @@ pub returns-clause-sizes : goal.returns-clause-sizes
 returns-clause-sizes g c =
     trim_sizes g.D.Disk.view c.args.self.now.committer c.trim.new.self c.trim.result
     c.trim.ensures
+
+pub returns-clause-past : goal.returns-clause-past
+returns-clause-past g c =
+    let s = c.args.self.now in
+    λ p h. past_trim g.D.Disk.view p s.front s.committer c.trim.new.self s.queue.groups.items h
+    c.trim.result c.trim.ensures
