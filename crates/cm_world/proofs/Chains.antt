@@ -73,7 +73,7 @@ run_more sizes events replies old new e r run moves = record {
     chain = chain_more sizes run.ran.first run.last run.ran.steps s run.ran.chain begins
         (subst (λ z. IsStep z e r s.before s.after) run.sizes_are moves.step);
   };
-  at = record { disk = refl; matches = moves.matches };
+  at = record { disk = refl; underway = refl; matches = moves.matches };
   sizes_are = moves.sizes_stay ∙ run.sizes_are;
 }
   where
@@ -86,4 +86,8 @@ run_more sizes events replies old new e r run moves = record {
     }
 
     begins : s.before ≡ run.last
-    begins = (λ i. record { disk = run.at.disk i; machine = run.last.machine })
+    begins = (λ i. record {
+      disk = run.at.disk i;
+      machine = run.last.machine;
+      underway = run.at.underway i;
+    })

@@ -2,4 +2,5 @@ mod Kept
 mod Chains
 mod Moved
 mod Reopened
+mod Working
 mod Told

@@ -1,7 +1,7 @@
 -- A file that is opened.
 -- For `World::crash`, `World::new`, `World::reopen`.
 use Rattle.std.proofs.Common.{◌≡◌, ℕ, List, [], Result, Ok, Err, refl, sym, ap, subst, ◌∙◌, arith}
-use Rattle.std.proofs.Common.{false}
+use Rattle.std.proofs.Common.{false, None}
 use Rattle.std.specs.Prelude.{IfOk, ◌↔◌}
 use Rattle.std.specs.FinMap as map
 use Rattle.cm_pool.specs.Geometry.{Sizes}
@@ -79,7 +79,8 @@ nothing_stands sizes contents empty = record {
 
 pub begun : (sizes : Sizes) (r : Reply) (disk : SimDisk) (w : World)
     → sim_contents disk ≡ new_bytes sizes
-    → MovesTo sizes empty_machine r disk (record { disk = disk; machine = empty_machine }) w
+    → MovesTo sizes empty_machine r disk
+    (record { disk = disk; machine = empty_machine; underway = None }) w
     → IsBegun sizes w
 begun sizes r disk w made m = record {
   first = state w m.next;
@@ -96,8 +97,9 @@ begun sizes r disk w made m = record {
       failed = false;
       noticed = false;
     });
+    idle = m.opens.idle;
   };
-  at = record { disk = refl; matches = m.matches };
+  at = record { disk = refl; underway = refl; matches = m.matches };
   sizes_are = m.sizes_are;
 }
   where

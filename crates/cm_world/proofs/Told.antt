@@ -12,6 +12,7 @@ use Rattle.cm_commit.specs.declared.progress.Progress.{Progress}
 use Rattle.cm_commit.specs.declared.progress.Progress.TheVariants as progress
 use Rattle.cm_commit.specs.declared.progress.AdvanceFault.{AdvanceFault}
 use Rattle.cm_commit.specs.declared.progress.AdvanceFault.TheVariants as fault
+use Rattle.cm_commit.specs.declared.progress.NotIdle.{NotIdle}
 use Rattle.cm_commit.specs.Advances.{CallsDevice}
 use Rattle.cm_session.specs.declared.session.Sealed.{Sealed}
 use Rattle.cm_world.specs.declared.event.Event.{Event}
@@ -19,7 +20,7 @@ use Rattle.cm_world.specs.declared.event.Event.TheVariants as event
 use Rattle.cm_world.specs.declared.reply.Reply.{Reply}
 use Rattle.cm_world.specs.declared.reply.Reply.TheVariants as reply
 use Rattle.cm_world.specs.Steps.{State, Does, command_reply, seal_reply, advance_reply, trim_reply}
-use Rattle.cm_world.specs.Steps.{FindsSame}
+use Rattle.cm_world.specs.Steps.{FindsSame, Trims}
 use Rattle.cm_world.specs.Laws.{keeps_open, calls_told}
 
 -- ---- replies that report none
@@ -37,6 +38,11 @@ trim_told : {E : Type 0} (x : Result Bool E) → calls_told (trim_reply x) ≡ 0
 trim_told (Ok true) = refl
 trim_told (Ok false) = refl
 trim_told (Err e) = refl
+
+trim_disk : (sizes : Sizes) (before after : State) (x : Result Bool NotIdle)
+    → Trims sizes before x after → after.disk ≡ before.disk
+trim_disk sizes before after (Ok due) t = ap (λ (s : State). s.disk) t.4
+trim_disk sizes before after (Err busy) t = ap (λ (s : State). s.disk) t.1
 
 look_told : (words : Option (List ℕ)) (r : Reply) → FindsSame words r → calls_told r ≡ 0
 look_told words (reply.Accepted n) p = refl
@@ -122,7 +128,8 @@ told sizes event.Seal r begun before after keeps d =
 told sizes event.Advance r begun before after keeps d =
     rw d.reply_is (steps_told before.disk after.disk d.result d.call)
 told sizes event.Trim r begun before after keeps d =
-    none_made r before.disk after.disk (ap (λ (s : State). sim_calls s.disk) d.stays)
+    none_made r before.disk after.disk
+    (ap sim_calls (trim_disk sizes before after d.result d.trims))
     (ap calls_told d.reply_is ∙ trim_told d.result)
 told sizes event.Learn r begun before after keeps d =
     none_made r before.disk after.disk (ap sim_calls d.disk_stays) (ap calls_told d.reply_is)

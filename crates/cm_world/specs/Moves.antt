@@ -15,9 +15,13 @@ use Rattle.cm_world.specs.declared.reply.Reply.{Reply}
 use Rattle.cm_world.specs.declared.world.World.{World}
 use Rattle.cm_world.specs.Steps.{State, IsStep, OpenedAgain}
 
--- the world's disk, with the machine's state
+-- the world's disk, with the machine's state and what is under way
 abbrev pub state : World → Machine → State
-state w k = record { disk = w.session.committer.disk; machine = k }
+state w k = record {
+  disk = w.session.committer.disk;
+  machine = k;
+  underway = w.session.committer.underway;
+}
 
 -- the events that open the file again
 abbrev pub OpensAgain : Event → Type 0

@@ -14,13 +14,14 @@ use Rattle.cm_world.specs.declared.world.World.{World}
 use Rattle.cm_world.specs.Steps.{State, IsStep}
 
 -- a disk that holds a new file, all of it durable, which stands for the empty cache; nothing was
--- accepted yet, and nothing is armed
+-- accepted yet, nothing is under way, and nothing is armed
 pub record IsNewWorld (sizes : Sizes) (s : State) : Type 0 where
   pub contents : sim_contents s.disk ≡ new_bytes sizes
   pub stored : IsDurable (sim_contents s.disk) (sim_unsynced s.disk)
   pub images : EachImage (sim_contents s.disk) (sim_unsynced s.disk) (StandsForSome sizes s.machine)
   pub disarmed : sim_armed s.disk ≡ None
   pub machine : s.machine ≡ empty_machine
+  pub idle : s.underway ≡ None
 
 -- an event with its reply, and the states before and after it
 pub record Step : Type 0 where
@@ -46,9 +47,10 @@ pub record Ran (sizes : Sizes) (events : List Event) (replies : List Reply) (las
   pub replies_are : map (λ (s : Step). s.reply) steps ≡ replies
   pub chain : Chain sizes first steps last
 
--- the world matches the machine, and has its disk
+-- the world matches the machine, and has its disk and what is under way
 pub record WorldMatches (s : State) (w : World) : Type 0 where
   pub disk : w.session.committer.disk ≡ s.disk
+  pub underway : w.session.committer.underway ≡ s.underway
   pub matches : SessionMatches s.machine w.session
 
 -- the world of a new file

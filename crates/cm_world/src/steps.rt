@@ -38,6 +38,7 @@ impl World {
         ensures { (k : Machine) → SessionMatches k self.old.session
             → EventMoves k event.Advance result self.old self.new }
     {
+        self.session.committed();
         let answer = self.session.advance();
         self.session.images();
         advance_reply(answer)
@@ -49,6 +50,7 @@ impl World {
             → EventMoves k event.Trim result self.old self.new }
     {
         self.session.images();
+        self.session.committed();
         let answer = self.session.trim();
         self.session.images();
         trim_reply(answer)

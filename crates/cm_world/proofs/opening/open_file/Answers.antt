@@ -35,6 +35,8 @@ returns-in-Ok-clause-opened c =
         stored = subst (λ (z : CommitterState SimDisk).
             IsDurable (sim_contents z.disk) (sim_unsynced z.disk)) same o.durable;
         disarmed = ap (λ (z : CommitterState SimDisk). sim_armed z.disk) c.disarm.ensures.disk;
+        idle = ap (λ (z : CommitterState SimDisk). z.underway) c.disarm.ensures.disk
+            ∙ c.in-Ok.ensures.idle;
       };
       moments = subst (λ (z : CommitterState SimDisk). LeavesOnly sim_view disk
           z.disk (IsImage (sim_contents disk) (sim_unsynced disk))) same

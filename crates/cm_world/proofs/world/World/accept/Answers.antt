@@ -1,4 +1,6 @@
-use Rattle.std.proofs.Common.{refl}
+use Rattle.std.proofs.Common.{refl, ap}
+use Rattle.cm_disk.specs.declared.sim.SimDisk.{SimDisk}
+use Rattle.cm_commit.specs.States.{CommitterState}
 use Rattle.cm_world.specs.declared.world.World.{World}
 use Rattle.cm_world.specs.declared.event.Event.TheVariants as event
 use Rattle.cm_world.proofs.Moved.{stays, disk_stays}
@@ -22,5 +24,6 @@ returns c =
       answers = m.reaches.does;
       disk_stays = disk_stays k e r old new c.accept-answer.ensures.disk (c.images.ensures k i)
           c.images-2.ensures;
+      underway_stays = ap (λ (m : CommitterState SimDisk). m.underway) c.accept-answer.ensures.disk;
     })
     m.reaches.matches

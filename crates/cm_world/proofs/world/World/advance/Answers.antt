@@ -4,7 +4,9 @@ use Rattle.cm_disk.specs.Sim.{sim_contents, sim_unsynced}
 use Rattle.cm_commit.specs.Advances.{EndsBehind}
 use Rattle.cm_world.specs.declared.world.World.{World}
 use Rattle.cm_world.specs.declared.event.Event.TheVariants as event
+use Rattle.cm_world.proofs.Kept.{now_left}
 use Rattle.cm_world.proofs.Moved.{moved}
+use Rattle.cm_world.proofs.Working.{works_on, tells_roots}
 use Rattle.cm_world.proofs.world.World.advance.Goals as goal
 
 pub returns : goal.returns
@@ -23,6 +25,12 @@ returns c =
       call = does.call;
       no_call = does.no_call;
       cause = does.cause;
+      works = works_on new.session.queue.groups.items old.session.committer new.session.committer
+          c.advance-answer.result does.steps m.matches.busy;
+      roots = tells_roots new.session.queue.groups.items old.session.committer
+          new.session.committer c.advance-answer.result does.steps
+          (λ none. (c.committed.ensures none).each (sim_contents old.session.committer.disk)
+          (now_left old.session.committer.disk));
       trimmed = subst (λ (z : Sizes). EndsBehind z (sim_contents new.session.committer.disk)
           (sim_unsynced new.session.committer.disk) c.advance-answer.result) does.sizes
           does.trimmed;

@@ -19,7 +19,12 @@ returns c =
     let disk = ap (λ (z : CommitterState SimDisk). z.disk) same in
     λ k i. moved k (event.Fault c.args.stores) reply.Armed old new
     (ap (λ (z : CommitterState SimDisk). z.sizes) same) c.images-2.ensures k refl
-    (record { reply_is = refl; machine_stays = refl; disk_is = disk })
+    (record {
+      reply_is = refl;
+      machine_stays = refl;
+      underway_stays = ap (λ (z : CommitterState SimDisk). z.underway) same;
+      disk_is = disk;
+    })
     (subst (λ (d : SimDisk). LeavesOnly sim_view old.session.committer.disk d
     (StandsForSome old.session.committer.sizes k)) (sym disk)
     (unmoved old.session.committer.disk (Some c.args.stores)

@@ -1,4 +1,6 @@
-use Rattle.std.proofs.Common.{refl}
+use Rattle.std.proofs.Common.{refl, ap}
+use Rattle.cm_disk.specs.declared.sim.SimDisk.{SimDisk}
+use Rattle.cm_commit.specs.States.{CommitterState}
 use Rattle.cm_world.specs.declared.world.World.{World}
 use Rattle.cm_world.specs.declared.event.Event.TheVariants as event
 use Rattle.cm_world.specs.declared.reply.Reply.TheVariants as reply
@@ -20,5 +22,6 @@ returns c =
       learns = m.does;
       disk_stays = disk_stays k event.Learn r old new c.learn-number.ensures.disk
           (c.images.ensures k i) c.images-2.ensures;
+      underway_stays = ap (λ (m : CommitterState SimDisk). m.underway) c.learn-number.ensures.disk;
     })
     m.matches

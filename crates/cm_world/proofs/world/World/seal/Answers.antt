@@ -1,4 +1,6 @@
-use Rattle.std.proofs.Common.{refl}
+use Rattle.std.proofs.Common.{refl, ap}
+use Rattle.cm_disk.specs.declared.sim.SimDisk.{SimDisk}
+use Rattle.cm_commit.specs.States.{CommitterState}
 use Rattle.cm_world.specs.declared.world.World.{World}
 use Rattle.cm_world.specs.declared.event.Event.TheVariants as event
 use Rattle.cm_world.proofs.Moved.{stays, disk_stays}
@@ -19,5 +21,6 @@ returns c =
       seals = m.does;
       disk_stays = disk_stays k event.Seal r old new c.seal-answer.ensures.disk
           (c.images.ensures k i) c.images-2.ensures;
+      underway_stays = ap (λ (m : CommitterState SimDisk). m.underway) c.seal-answer.ensures.disk;
     })
     m.matches

@@ -1,9 +1,10 @@
-use Rattle.std.proofs.Common.{refl, ap}
-use Rattle.cm_disk.specs.declared.sim.SimDisk.{SimDisk}
+use Rattle.std.proofs.Common.{refl}
+use Rattle.cm_disk.specs.Sim.{sim_contents}
 use Rattle.cm_world.specs.declared.world.World.{World}
 use Rattle.cm_world.specs.declared.event.Event.TheVariants as event
-use Rattle.cm_world.proofs.Kept.{still}
+use Rattle.cm_world.proofs.Kept.{still, now_left}
 use Rattle.cm_world.proofs.Moved.{moved}
+use Rattle.cm_world.proofs.Working.{trims}
 use Rattle.cm_session.specs.Images.{StandsForSome}
 use Rattle.cm_world.proofs.world.World.trim.Goals as goal
 
@@ -18,8 +19,9 @@ returns c =
     (record {
       result = c.trim-answer.result;
       reply_is = c.trim_reply.ensures;
-      sound = does.sound k i;
-      stays = ap (λ (d : SimDisk). record { disk = d; machine = k }) does.disk;
+      trims = trims k old.session.committer new.session.committer i.failed_is
+          (λ none. (c.committed.ensures none).each (sim_contents old.session.committer.disk)
+          (now_left old.session.committer.disk)) c.trim-answer.result does.as_committer;
     })
     (still old.session.committer.disk new.session.committer.disk
     (StandsForSome old.session.committer.sizes k) does.disk (c.images.ensures k i))
