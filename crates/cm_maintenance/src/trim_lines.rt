@@ -1,6 +1,7 @@
 //! Trims a file, and reports how many roots it then has.
 
 ghost use Rattle.std.specs.Prelude.{◌≡◌, ◌<◌, Ok};
+ghost use Rattle.cm_disk.specs.Disk.{IsDurable};
 ghost use Rattle.cm_guards.specs.Calls.{LeavesOnly};
 ghost use Rattle.cm_guards.specs.Guards.{EachImage};
 ghost use Rattle.cm_maintenance.specs.Texts.{roots_line};
@@ -38,6 +39,8 @@ pub fn trim_to<W: Write, D: Disk>(
         (W.contents writer.old) (W.contents writer.new) (status_in result) }
     ensures trimmed { status_in result ≡ Ok Status.Done
         → IsTrimmed (D.view.contents disk) (D.view.contents (disk_left result)) }
+    ensures stored { status_in result ≡ Ok Status.Done
+        → IsDurable (D.view.contents (disk_left result)) (D.view.unsynced (disk_left result)) }
     ensures moments { LeavesOnly D.view disk (disk_left result)
         (LeavesSame (D.view.contents disk) (D.view.unsynced disk)) }
     ensures images { EachImage (D.view.contents (disk_left result))

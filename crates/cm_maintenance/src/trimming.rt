@@ -1,6 +1,7 @@
 //! Truncates a file after the last root that rows use.
 
 ghost use Rattle.std.specs.Prelude.{◌≡◌, ◌≤◌, ◌<◌, false, length, IsErr, IfOk, OnOk, Ok, Err};
+ghost use Rattle.cm_disk.specs.Disk.{IsDurable};
 ghost use Rattle.cm_guards.specs.Calls.{LeavesOnly};
 ghost use Rattle.cm_layout.specs.Offsets.{root_at};
 ghost use Rattle.cm_commit.specs.States.{IsFree, ShowsCommitted, with_trim};
@@ -24,6 +25,8 @@ fn cut<D: Disk>(committer: &mut Committer<D>) -> Result<(), AdvanceFault>
         → D.view.failures committer.old.disk < D.view.failures committer.new.disk }
     ensures ends { OnOk result (length (D.view.contents committer.new.disk)
         ≡ root_at committer.old.sizes (roots_of_rows committer.old.rows)) }
+    ensures stored { OnOk result (IsDurable (D.view.contents committer.new.disk)
+        (D.view.unsynced committer.new.disk)) }
 {
     committer.advance()?;
     committer.advance()?;
@@ -44,6 +47,10 @@ pub(crate) fn trim_file<D: Disk>(committer: &mut Committer<D>) -> Result<u32, Op
     ensures told { IfOk result (λ roots. roots ≡ roots_of_rows committer.old.rows) }
     ensures no_more { IfOk result (λ roots. HasNoMore committer.old.sizes roots
         (D.view.contents committer.new.disk)) }
+    ensures stored { IsDurable (D.view.contents committer.old.disk)
+        (D.view.unsynced committer.old.disk)
+        → IfOk result (λ roots. IsDurable (D.view.contents committer.new.disk)
+        (D.view.unsynced committer.new.disk)) }
 {
     committer.images();
     match committer.trim() {

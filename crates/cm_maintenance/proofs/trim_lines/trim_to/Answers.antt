@@ -1,5 +1,6 @@
 use Rattle.std.proofs.Common.{◌≡◌, ◌<◌, ◌∙◌, Result, Err, inr, sym, ap, subst, arith}
 use Rattle.std.specs.Prelude.{is_err}
+use Rattle.cm_disk.specs.Disk.{IsDurable}
 use Rattle.cm_guards.specs.Calls.{LeavesOnly}
 use Rattle.cm_guards.specs.Guards.{EachImage}
 use Rattle.cm_guards.proofs.{leaves_more, leaves_on}
@@ -14,6 +15,7 @@ use Rattle.cm_maintenance.specs.Trimming.{IsTrimmed, HasNoMore}
 use Rattle.cm_recover.specs.Opened.{LeavesSame}
 use Rattle.cm_maintenance.proofs.Cuts.{roots_told, trimmed_so, same_cache, shows_as, of_ok}
 use Rattle.cm_maintenance.proofs.Cuts.{done_roots}
+use Rattle.cm_maintenance.proofs.Statuses.{never_done}
 use Rattle.cm_maintenance.proofs.trim_lines.trim_to.Goals as goal
 
 pub returns-in-Ok-clause-told : goal.returns-in-Ok-clause-told
@@ -55,6 +57,26 @@ returns-in-Ok-clause-trimmed g c =
     (trimmed_so contents c.in-Ok._front committer opened n.0 left
     (of_ok roots.result (λ k. k ≡ roots_of_rows committer.rows) n.0 n.1 roots.ensures.told)
     (of_ok roots.result (λ k. HasNoMore committer.sizes k left) n.0 n.1 roots.ensures.no_more))
+
+pub returns-in-Ok-clause-stored : goal.returns-in-Ok-clause-stored
+returns-in-Ok-clause-stored g c =
+    let view = g.D.Disk.view in
+    let roots = c.trim_file-roots in
+    let left_is = c.with_disk.ensures.disk ∙ c.into_disk.ensures in
+    let left = roots.new.committer.disk in
+    λ done.
+    let n = done_roots (g.W.Write.contents c.args.writer.now)
+    (g.W.Write.contents c.tell_roots-status.new.writer) roots.result c.tell_roots-status.result
+    c.tell_roots-status.ensures (sym c.with_disk.ensures.status ∙ done) in
+    subst (λ d. IsDurable (view.contents d) (view.unsynced d)) (sym left_is)
+    (of_ok roots.result (λ _. IsDurable (view.contents left) (view.unsynced left)) n.0 n.1
+    (roots.ensures.stored c.in-Ok.ensures.stored))
+
+pub returns-in-Err-clause-stored : goal.returns-in-Err-clause-stored
+returns-in-Err-clause-stored g c =
+    λ done. absurd
+    (never_done _ _ _ c.in-Err.field-0.fault c.tell_fault-status.result c.tell_fault-status.ensures
+    (sym c.with_disk-in-Err.ensures.status ∙ done))
 
 pub returns-in-Ok-clause-moments : goal.returns-in-Ok-clause-moments
 returns-in-Ok-clause-moments g c =

@@ -1,4 +1,5 @@
 use Rattle.std.proofs.Common.{List, sym, ap, subst, ◌∙◌}
+use Rattle.cm_disk.specs.Disk.{IsDurable}
 use Rattle.cm_guards.specs.Calls.{LeavesOnly}
 use Rattle.cm_guards.proofs.{leaves_none}
 use Rattle.cm_layout.specs.declared.row.Row.{Row}
@@ -47,3 +48,15 @@ returns-in-Ok-false-clause-moments g c =
           shows_committed s (subst NoGroup (sym c.requires.idle) tt) image
           (c.images.ensures.each image i);
     }))
+
+pub returns-in-Ok-clause-stored : goal.returns-in-Ok-clause-stored
+returns-in-Ok-clause-stored g c = λ durable. c.in-Ok.ensures.stored
+
+pub returns-in-Ok-false-clause-stored : goal.returns-in-Ok-false-clause-stored
+returns-in-Ok-false-clause-stored g c =
+    let view = g.D.Disk.view in
+    let is = none_is view c.args.committer.now c.trim.new.self c.in-Ok-false.field-0
+    c.in-Ok-false.field-0-test c.in-Ok-false.ensures in
+    λ durable.
+    subst (λ (m : CommitterState _). IsDurable (view.contents m.disk) (view.unsynced m.disk))
+    (sym is) durable
