@@ -1,0 +1,68 @@
+//! A class that is ready to be defined, for C.
+
+use crate::handle::Handle;
+use crate::inner::Inner;
+use crate::status::of_refusal;
+use cm_commands::{BadClass, Refusal, prepare};
+use cm_rules::Spot;
+use std::alloc::Global;
+
+/// Why bytes are no class that keeps the rules.
+#[repr(C)]
+pub struct BadClassForC {
+    /// 1 truncated, 2 trailing, 3 malformed, 4 a rule.
+    pub kind: u32,
+    /// The rule's number.
+    pub rule: u32,
+    /// 1 pool, 2 this, 3 super, 4 interface, 5 field, 6 method, 7 attribute.
+    pub spot: u32,
+    /// Trailing and malformed: a byte. A rule: the index at the spot.
+    pub at: u64,
+}
+
+fn spot_numbers(spot: Spot) -> (u32, u16) {
+    match spot {
+        Spot::Pool(index) => (1, index),
+        Spot::This => (2, 0),
+        Spot::Super => (3, 0),
+        Spot::Interface(at) => (4, at),
+        Spot::Field(at) => (5, at),
+        Spot::Method(at) => (6, at),
+        Spot::Attribute(at) => (7, at),
+    }
+}
+
+fn explain(bad: &BadClass, told: &mut BadClassForC) {
+    let (kind, rule, spot, at) = match *bad {
+        BadClass::Truncated => (1, 0, 0, 0),
+        BadClass::Trailing(at) => (2, 0, 0, at as u64),
+        BadClass::Malformed(at) => (3, 0, 0, at as u64),
+        BadClass::Rule(broken) => {
+            let (spot, index) = spot_numbers(broken.spot);
+            (4, u32::from(broken.rule.number()), spot, u64::from(index))
+        }
+    };
+    told.kind = kind;
+    told.rule = rule;
+    told.spot = spot;
+    told.at = at;
+}
+
+/// Reads and judges a class file, and lays its record.
+#[unsafe(no_mangle)]
+pub extern "C" fn cmcore_prepare(
+    alloc: Global,
+    bytes: &[u8],
+    prepared: &mut Handle,
+    bad: &mut BadClassForC,
+) -> i32 {
+    match prepare(alloc, bytes) {
+        Ok(class) => prepared.fill(alloc, Inner::Prepared(class)),
+        Err(refusal) => {
+            if let Refusal::BadClass(fault) = &refusal {
+                explain(fault, bad);
+            }
+            of_refusal(&refusal)
+        }
+    }
+}

@@ -1,0 +1,15 @@
+//! The cache for C: what `c/cmcore.h` declares. There is no logic here: each export takes what a
+//! handle leads to, calls the crates below, and puts the answer into numbers.
+#![tactic(auto)]
+
+mod cache;
+mod calls;
+mod class;
+mod handle;
+mod inner;
+mod loose;
+mod places;
+mod record;
+mod status;
+
+pub use handle::Handle;

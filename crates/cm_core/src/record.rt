@@ -1,0 +1,262 @@
+//! The record of a class, for C.
+
+use crate::handle::Handle;
+use crate::inner::Inner;
+use crate::places::words_at;
+use crate::status::{EMPTY, NO_MEMORY, NONE, OK};
+use cm_class::Constant;
+use cm_record::{Code, Member, Record, Utf8Place};
+use std::alloc::Global;
+use std::sync::Arc;
+
+/// A constant of the pool.
+#[repr(C)]
+#[derive(Clone, Copy)]
+pub struct ConstantForC {
+    /// Its tag (JVMS table 4.4-A).
+    pub tag: u8,
+    /// The kind of a method handle.
+    pub kind: u8,
+    pub one: u16,
+    pub two: u16,
+    /// How many bytes a Utf8 has.
+    pub len: u16,
+    /// Where they begin, in bytes from the record's first byte.
+    pub at: u32,
+    /// The bits of a number.
+    pub value: u64,
+}
+
+/// A field or a method.
+#[repr(C)]
+#[derive(Clone, Copy)]
+pub struct MemberForC {
+    pub is_method: bool,
+    pub index: u16,
+    pub flags: u16,
+    pub attributes: u16,
+}
+
+/// Where the code of a method is, in bytes from the record's first byte.
+#[repr(C)]
+#[derive(Clone, Copy)]
+pub struct CodeForC {
+    pub max_stack: u16,
+    pub max_locals: u16,
+    pub handlers: u16,
+    pub code_at: u32,
+    pub code_len: u32,
+    pub handlers_at: u32,
+}
+
+// A share of the record that a handle leads to.
+fn share_of(alloc: Global, handle: &mut Handle) -> Result<Arc<Record, Global>, i32> {
+    let Some(inner) = handle.take(alloc) else {
+        return Err(EMPTY);
+    };
+    let shared = match &*inner {
+        Inner::Record(class) => match class.clone() {
+            Ok(class) => Ok(class),
+            Err(_) => Err(NO_MEMORY),
+        },
+        _ => Err(EMPTY),
+    };
+    *handle = Handle::of(inner);
+    shared
+}
+
+/// The words of a record, where they are.
+#[unsafe(no_mangle)]
+pub extern "C" fn cmcore_record_words(
+    alloc: Global,
+    record: &mut Handle,
+    words: &mut *const u64,
+    count: &mut usize,
+) -> i32 {
+    match share_of(alloc, record) {
+        Ok(class) => {
+            let all = class.as_slice();
+            *words = words_at(all);
+            *count = all.len();
+            OK
+        }
+        Err(status) => status,
+    }
+}
+
+/// The access flags of a class.
+#[unsafe(no_mangle)]
+pub extern "C" fn cmcore_record_flags(alloc: Global, record: &mut Handle, flags: &mut u16) -> i32 {
+    match share_of(alloc, record) {
+        Ok(class) => {
+            *flags = class.flags();
+            OK
+        }
+        Err(status) => status,
+    }
+}
+
+fn empty_constant(tag: u8) -> ConstantForC {
+    ConstantForC {
+        tag,
+        kind: 0,
+        one: 0,
+        two: 0,
+        len: 0,
+        at: 0,
+        value: 0,
+    }
+}
+
+fn with_value(tag: u8, value: u64) -> ConstantForC {
+    let mut told = empty_constant(tag);
+    told.value = value;
+    told
+}
+
+fn with_indexes(tag: u8, one: u16, two: u16) -> ConstantForC {
+    let mut told = empty_constant(tag);
+    told.one = one;
+    told.two = two;
+    told
+}
+
+fn with_place(tag: u8, place: Utf8Place) -> ConstantForC {
+    let mut told = empty_constant(tag);
+    told.at = place.at;
+    told.len = place.len;
+    told
+}
+
+fn in_numbers(constant: Constant<Utf8Place>) -> ConstantForC {
+    match constant {
+        Constant::Utf8(place) => with_place(1, place),
+        Constant::Integer(bits) => with_value(3, u64::from(bits)),
+        Constant::Float(bits) => with_value(4, u64::from(bits)),
+        Constant::Long(bits) => with_value(5, bits),
+        Constant::Double(bits) => with_value(6, bits),
+        Constant::Class { name } => with_indexes(7, name, 0),
+        Constant::String { utf8 } => with_indexes(8, utf8, 0),
+        Constant::Fieldref {
+            class,
+            name_and_type,
+        } => with_indexes(9, class, name_and_type),
+        Constant::Methodref {
+            class,
+            name_and_type,
+        } => with_indexes(10, class, name_and_type),
+        Constant::InterfaceMethodref {
+            class,
+            name_and_type,
+        } => { with_indexes(11, class, name_and_type) }
+        Constant::NameAndType { name, descriptor } => with_indexes(12, name, descriptor),
+        Constant::MethodHandle { kind, reference } => {
+            let mut told = with_indexes(15, reference, 0);
+            told.kind = kind;
+            told
+        }
+        Constant::MethodType { descriptor } => with_indexes(16, descriptor, 0),
+        Constant::InvokeDynamic {
+            bootstrap_method,
+            name_and_type,
+        } => { with_indexes(18, bootstrap_method, name_and_type) }
+    }
+}
+
+/// The constant at an index of the pool.
+#[unsafe(no_mangle)]
+pub extern "C" fn cmcore_record_constant(
+    alloc: Global,
+    record: &mut Handle,
+    index: u16,
+    told: &mut ConstantForC,
+) -> i32 {
+    match share_of(alloc, record) {
+        Ok(class) => match class.constant(index) {
+            Some(constant) => {
+                *told = in_numbers(constant);
+                OK
+            }
+            None => NONE,
+        },
+        Err(status) => status,
+    }
+}
+
+fn tell_member(found: Option<Member>, told: &mut MemberForC) -> i32 {
+    match found {
+        Some(member) => {
+            told.is_method = member.is_method;
+            told.index = member.index;
+            told.flags = member.flags;
+            told.attributes = member.attributes;
+            OK
+        }
+        None => NONE,
+    }
+}
+
+/// The first field of a name and a descriptor.
+#[unsafe(no_mangle)]
+pub extern "C" fn cmcore_record_field(
+    alloc: Global,
+    record: &mut Handle,
+    name: &[u8],
+    descriptor: &[u8],
+    told: &mut MemberForC,
+) -> i32 {
+    match share_of(alloc, record) {
+        Ok(class) => tell_member(class.field(name, descriptor), told),
+        Err(status) => status,
+    }
+}
+
+/// The first method of a name and a descriptor.
+#[unsafe(no_mangle)]
+pub extern "C" fn cmcore_record_method(
+    alloc: Global,
+    record: &mut Handle,
+    name: &[u8],
+    descriptor: &[u8],
+    told: &mut MemberForC,
+) -> i32 {
+    match share_of(alloc, record) {
+        Ok(class) => tell_member(class.method(name, descriptor), told),
+        Err(status) => status,
+    }
+}
+
+fn tell_code(found: Option<Code>, told: &mut CodeForC) -> i32 {
+    match found {
+        Some(code) => {
+            told.max_stack = code.max_stack;
+            told.max_locals = code.max_locals;
+            told.handlers = code.handlers;
+            told.code_at = code.code_at;
+            told.code_len = code.code_len;
+            told.handlers_at = code.handlers_at;
+            OK
+        }
+        None => NONE,
+    }
+}
+
+/// Where the code of a method is.
+#[unsafe(no_mangle)]
+pub extern "C" fn cmcore_record_code(
+    alloc: Global,
+    record: &mut Handle,
+    method: &MemberForC,
+    told: &mut CodeForC,
+) -> i32 {
+    let member = Member {
+        is_method: method.is_method,
+        index: method.index,
+        flags: method.flags,
+        attributes: method.attributes,
+    };
+    match share_of(alloc, record) {
+        Ok(class) => tell_code(class.code(&member), told),
+        Err(status) => status,
+    }
+}
