@@ -195,8 +195,8 @@ def fenced(kind):
             for block in re.findall(rf"^```{kind}\n(.*?)^```$", README.read_text(), re.S | re.M)]
 
 
-# An item of a program: a function with its comment, or an `impl`.
-ITEM = re.compile(r"^(?:///.*\n)*(?:fn|impl)\b(?:.*\n)+?}\n", re.M)
+# An item of a program: a function or a struct with its comment and attributes, or an `impl`.
+ITEM = re.compile(r"^(?:///.*\n)*(?:#\[.*\]\n)*(?:fn|struct|impl)\b(?:.*\n)+?}\n", re.M)
 
 
 def example():
