@@ -1,5 +1,13 @@
 //! A cache for C.
 
+ghost use Rattle.std.specs.Prelude.{◌≡◌, ℕ, Result, false};
+ghost use Rattle.cm_commands.specs.Commands.{change_asked};
+ghost use Rattle.cm_commands.specs.Machine.{Machine};
+ghost use Rattle.cm_commands.specs.declared.refusal.Refusal.{Refusal as Reason};
+ghost use Rattle.cm_session.specs.Moves.{Accepting};
+ghost use Rattle.cm_stepped.specs.Stepping.{SteppedMatches};
+ghost use Rattle.cm_core.specs.Status.{accept_status, number_told};
+
 use crate::handle::Handle;
 use crate::inner::Inner;
 use crate::status::{Damage, EMPTY, NO_MEMORY, NONE, OK, OLDER, of_open_fault, of_refusal};

@@ -1,5 +1,15 @@
 //! The device calls that C is to make.
 
+ghost use Rattle.std.specs.Prelude.{◌≡◌, Result, IsSome, false, true};
+ghost use Rattle.cm_deferred_disk.specs.Last.{Notes};
+ghost use Rattle.cm_device_disk.specs.DeviceDisk.{disk_view, IsDeviceCall};
+ghost use Rattle.cm_commands.specs.Machine.{Machine};
+ghost use Rattle.cm_session.specs.Moves.{ReachesMachine};
+ghost use Rattle.cm_stepped.specs.declared.step.Step.{Step as Reached};
+ghost use Rattle.cm_stepped.specs.declared.step.Broken.{Broken};
+ghost use Rattle.cm_stepped.specs.Stepping.{SteppedMatches, Steps};
+ghost use Rattle.cm_core.specs.Status.{step_status, stored_told};
+
 use crate::handle::Handle;
 use crate::inner::Inner;
 use crate::places::bytes_at;
@@ -54,7 +64,14 @@ pub extern "C" fn cmcore_upgrade(
     }
 }
 
-fn step_cache(cache: &mut SteppedSession<DeferredDisk>, made: bool, stored: &mut u64) -> i32 {
+// A step of a cache. The call that it notes is what the disk's device then shows.
+fn step_cache(cache: &mut SteppedSession<DeferredDisk>, made: bool, stored: &mut u64) -> i32
+    ensures { (answer : Result Reached Broken) × ((k : Machine) → SteppedMatches k cache.old
+        → cache.old.is_broken ≡ false → (IsSome cache.old.asked → made ≡ true)
+        → ReachesMachine (Steps disk_view (IsDeviceCall Notes) k cache.old answer cache.new)
+        (λ next. SteppedMatches next cache.new)) × (result ≡ step_status answer)
+        × (stored.new ≡ stored_told stored.old answer) }
+{
     match cache.step(made) {
         Ok(Step::Stored(number)) => {
             *stored = number;

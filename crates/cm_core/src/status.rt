@@ -1,5 +1,9 @@
 //! The numbers that the exports answer.
 
+ghost use Rattle.std.specs.Prelude.{◌≡◌, pos};
+ghost use Rattle.cm_commands.specs.Refusals.{refusal_number};
+ghost use Rattle.cm_core.specs.Status.{open_status};
+
 use cm_commands::Refusal;
 use cm_recover::OpenFault;
 
@@ -41,12 +45,16 @@ pub struct Damage {
 }
 
 /// The number of a refusal, as in a reply of `cmcache apply`.
-pub(crate) fn of_refusal(refusal: &Refusal) -> i32 {
+pub(crate) fn of_refusal(refusal: &Refusal) -> i32
+    ensures { result ≡ pos (refusal_number refusal.now) }
+{
     i32::from(refusal.number())
 }
 
 /// The number for a file that isn't opened.
-pub(crate) fn of_open_fault(fault: OpenFault, damage: &mut Damage) -> i32 {
+pub(crate) fn of_open_fault(fault: OpenFault, damage: &mut Damage) -> i32
+    ensures { result ≡ open_status fault }
+{
     match fault {
         OpenFault::NotACache => NOT_A_CACHE,
         OpenFault::Damaged { what, slot } => {
