@@ -25,6 +25,14 @@ released_programs() {
     sed '1,3d; s/ .*//' "$repository/release/list.txt"
 }
 
+# built_as NAME: where a program of the release, or the library, is once it is built.
+built_as() {
+    case $1 in
+        libcm_core.a) echo "$repository/crates/cm_core/out/$1" ;;
+        *) echo "$repository/crates/$1/out/$1" ;;
+    esac
+}
+
 # is_built NAME: the program was built here, and no source is newer.
 is_built() {
     local made=$repository/crates/$1/out/$1
@@ -61,9 +69,10 @@ unpack() {
     return 1
 }
 
-# find_program NAME: prints the path of the executable to run. It reports newer sources, builds and
-# failures on standard error.
+# find_program NAME: prints the path of the executable to run, or of the static library for C. It
+# reports newer sources, builds and failures on standard error.
 find_program() {
+    [ "$1" = libcm_core.a ] && { find_core; return; }
     local made=$repository/crates/$1/out/$1
     is_built "$1" && { echo "$made"; return; }
     if [ -n "$(released "$1")" ] && [ "$(uname -sm)" = "Linux x86_64" ]; then
@@ -76,4 +85,22 @@ find_program() {
         fi
     fi
     "$repository/bin/build" "$1" >&2 && echo "$made"
+}
+
+# find_core: prints the path of the static library for C, which is found as a program is. It is also
+# built here if the crates below it are.
+find_core() {
+    local made=$repository/crates/cm_core/out/libcm_core.a
+    if [ -f "$made" ] && [ ! "$repository/crates.txt" -nt "$made" ] && [ -z "$(find \
+        "$repository/crates" -mindepth 2 -name out -prune -o -newer "$made" -print -quit)" ]; then
+        echo "$made"
+        return
+    fi
+    if ! "$repository/bin/core" --ready && [ -n "$(released libcm_core.a)" ] &&
+        [ "$(uname -sm)" = "Linux x86_64" ] &&
+        { [ "$(sources_hash)" = "$(released sources)" ] || is_unchanged; }; then
+        unpack libcm_core.a
+        return
+    fi
+    "$repository/bin/core" >&2 && echo "$made"
 }

@@ -49,11 +49,11 @@ elif [ "$(rt version)" != "$(released kit)" ]; then
 else
     for made in "$work"/release/*; do
         name=$(basename "$made")
-        if [ -z "${IN_CI:-}" ] && [ ! -x "crates/$name/out/$name" ]; then
+        if [ -z "${IN_CI:-}" ] && [ ! -e "$(built_as "$name")" ]; then
             echo "not compared: $name wasn't built here"
             continue
         fi
-        cmp "$made" "crates/$name/out/$name"
+        cmp "$made" "$(built_as "$name")"
         check_last "the bytes of $name"
     done
 fi
