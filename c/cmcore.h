@@ -1,0 +1,212 @@
+/* The proved part of cmcache, as C sees it: no thread, no lock, no file.
+ *
+ * It never touches a device. It says which device call is to be made next, and the caller makes it
+ * and says whether it was made. A command's number is known to be stored only once the caller said
+ * that the last call of its group was made.
+ *
+ * cmcache.h is the interface to use: it opens the file, locks, and stores what is accepted.
+ *
+ * A handle begins as {0}, which is empty, and is filled by one call. Only these functions read or
+ * write what is in it; it may be moved as long as no call runs. One call at a time uses a handle;
+ * different handles may be used at the same time, and a handle may go from thread to thread if a
+ * lock orders that. An export that gets an empty handle, or one of another kind, answers
+ * CMCORE_EMPTY and does nothing. If a handle that is to be filled is full, it is released first.
+ */
+#ifndef CMCORE_H
+#define CMCORE_H
+
+#include <stdbool.h>
+#include <stddef.h>
+#include <stdint.h>
+
+/* What a call answers. 1 to 16 refuse a command, as docs/PROGRAM.md numbers them. */
+enum {
+    CMCORE_OK = 0,
+    CMCORE_BAD_NAME = 1,
+    CMCORE_LOADER_EXISTS = 2,
+    CMCORE_NO_LOADER = 3,
+    CMCORE_CLASS_EXISTS = 4,
+    CMCORE_RECORD_TOO_LONG = 5,
+    CMCORE_REGION_FULL = 6,
+    CMCORE_JOURNAL_FULL = 7,
+    CMCORE_NO_MOVE = 8,
+    CMCORE_NO_MEMORY = 9,
+    CMCORE_BROKEN = 10,       /* the device failed earlier */
+    CMCORE_CLOSED = 11,
+    CMCORE_NUMBERS_SPENT = 12,
+    CMCORE_UNSURE = 13,       /* cmcache.h alone */
+    CMCORE_BAD_CLASS = 14,
+    CMCORE_BAD_LIST = 16,
+    CMCORE_BAD_SIZES = 20,
+    CMCORE_NOT_A_CACHE = 21,
+    CMCORE_DAMAGED = 22,
+    CMCORE_OLDER = 23,        /* a file of version 1: cmcore_upgrade comes first */
+    CMCORE_NONE = 24,         /* there is no such class, constant, member or code */
+    CMCORE_EMPTY = 25,
+    CMCORE_TOO_LONG = 26      /* there are more than 2^40 bytes */
+};
+
+typedef struct {
+    bool full;
+    void *at;
+} cmcore_handle;
+
+/* A device call that is to be made. */
+enum { CMCORE_NO_CALL = 0, CMCORE_WRITE = 1, CMCORE_CUT = 2, CMCORE_SYNC = 3 };
+
+typedef struct {
+    uint32_t kind;
+    uint64_t at;          /* of a write: where it begins; of a cut: the length */
+    const uint8_t *bytes; /* of a write: valid until the next cmcore_step with this handle */
+    size_t len;
+} cmcore_call;
+
+/* Why bytes are no class that keeps the rules. */
+enum { CMCORE_TRUNCATED = 1, CMCORE_TRAILING = 2, CMCORE_MALFORMED = 3, CMCORE_RULE = 4 };
+enum {
+    CMCORE_SPOT_POOL = 1,
+    CMCORE_SPOT_THIS = 2,
+    CMCORE_SPOT_SUPER = 3,
+    CMCORE_SPOT_INTERFACE = 4,
+    CMCORE_SPOT_FIELD = 5,
+    CMCORE_SPOT_METHOD = 6,
+    CMCORE_SPOT_ATTRIBUTE = 7
+};
+
+typedef struct {
+    uint32_t kind;
+    uint32_t rule;  /* of CMCORE_RULE: 1 to 24, as docs/RULES.md numbers them */
+    uint32_t spot;  /* of CMCORE_RULE */
+    uint64_t at;    /* trailing, malformed: a byte; a rule: the index at the spot */
+} cmcore_bad_class;
+
+/* The first damage of a file: what (1 to 9, as docs/REGION.md numbers them), and in which slot. */
+typedef struct {
+    uint32_t what;
+    uint32_t slot;
+} cmcore_damage;
+
+/* ---- calls to be made for a whole file: a handle of kind `calls` */
+
+/* The calls that make an empty file of these sizes. OK, BAD_SIZES, NO_MEMORY. */
+int32_t cmcore_format(uint32_t top, uint32_t roots, uint32_t slots, cmcore_handle *calls);
+
+/* The calls that make a file of version 1 one of version 2, given the file's bytes. A crash between
+ * any of them leaves a file with the same loaders and classes. OK, NOT_A_CACHE, DAMAGED, TOO_LONG,
+ * NO_MEMORY. */
+int32_t cmcore_upgrade(const uint8_t *bytes, size_t len, cmcore_handle *calls,
+                       cmcore_damage *damage);
+
+/* ---- a cache */
+
+/* Opens the cache that a file's bytes hold. The bytes are read during the call alone. All of them
+ * must be durable before the first cmcore_step: sync the file first. OK, NOT_A_CACHE, DAMAGED,
+ * TOO_LONG, OLDER, NO_MEMORY. */
+int32_t cmcore_open(const uint8_t *bytes, size_t len, cmcore_handle *cache, cmcore_damage *damage);
+
+/* Each gives a command the next number, or refuses it and changes nothing. Nothing is stored yet.
+ * After cmcore_define the prepared class is as it was. */
+int32_t cmcore_add_loader(cmcore_handle *cache, const uint8_t *loader, size_t loader_len,
+                          uint64_t *number);
+int32_t cmcore_define(cmcore_handle *cache, const uint8_t *loader, size_t loader_len,
+                      cmcore_handle *prepared, uint64_t *number);
+int32_t cmcore_unload(cmcore_handle *cache, const uint8_t *loader, size_t loader_len,
+                      uint64_t *number);
+int32_t cmcore_tighten(cmcore_handle *cache, const uint8_t *loader, size_t loader_len,
+                       uint64_t *number);
+/* The names stand in one text, with one space between them. */
+int32_t cmcore_unload_all(cmcore_handle *cache, const uint8_t *loaders, size_t loaders_len,
+                          uint64_t *number);
+
+/* The record of a class as accepted, whether or not it is stored: a share of it, which stays valid
+ * when the class is unloaded and the cache is released. OK, NONE, NO_MEMORY. */
+int32_t cmcore_find(cmcore_handle *cache, const uint8_t *loader, size_t loader_len,
+                    const uint8_t *name, size_t name_len, cmcore_handle *record);
+
+/* The next step: it is told whether the call that was to be made was made, which it ignores if
+ * there was none, and has the next one noted, for cmcore_next_call. A handle of kind `calls` shows
+ * its first call before the first step, a cache none.
+ *
+ * `stored` is set to the number of the last command that is stored, only in a step that is told
+ * that the last call of a group was made. Such a step has no call noted; the next one may. If a
+ * step does neither, all that was accepted is stored. Of a handle of kind `calls` nothing is
+ * stored.
+ *
+ * After a call that wasn't made, or can't be noted, no call is asked for any more, no number is
+ * told, and each command is refused as BROKEN; cmcore_find still finds. OK, BROKEN. */
+int32_t cmcore_step(cmcore_handle *cache_or_calls, bool made, uint64_t *stored);
+
+/* The device call that is to be made now; kind NO_CALL if there is none. OK. */
+int32_t cmcore_next_call(cmcore_handle *cache_or_calls, cmcore_call *call);
+
+typedef struct {
+    uint64_t accepted; /* the number of the last command that was accepted */
+    uint64_t stored;   /* the number of the last command that is known to be stored */
+    uint32_t top;
+    uint32_t roots;
+    uint32_t slots;
+} cmcore_stats;
+
+int32_t cmcore_get_stats(cmcore_handle *cache, cmcore_stats *stats);
+
+/* ---- a class that is ready to be defined */
+
+/* Reads and judges a class file, and lays its record. It may serve several cmcore_define. OK,
+ * BAD_CLASS (and *bad says why), RECORD_TOO_LONG, NO_MEMORY. */
+int32_t cmcore_prepare(const uint8_t *bytes, size_t len, cmcore_handle *prepared,
+                       cmcore_bad_class *bad);
+
+/* ---- a record; docs/RECORD.md describes its words */
+
+/* Its words, where they are; valid until the handle is released. */
+int32_t cmcore_record_words(cmcore_handle *record, const uint64_t **words, size_t *count);
+
+int32_t cmcore_record_flags(cmcore_handle *record, uint16_t *flags);
+
+/* A constant of the pool: its tag as in JVMS table 4.4-A, and what belongs to the tag. */
+typedef struct {
+    uint8_t tag;
+    uint8_t kind;   /* of a MethodHandle: its reference_kind */
+    uint16_t one;   /* the first index */
+    uint16_t two;   /* the second index */
+    uint16_t len;   /* of a Utf8: how many bytes it has */
+    uint32_t at;    /* of a Utf8: where they begin, in bytes from the record's first byte */
+    uint64_t value; /* of an Integer, Float, Long or Double: its bits */
+} cmcore_constant;
+
+int32_t cmcore_record_constant(cmcore_handle *record, uint16_t index, cmcore_constant *constant);
+
+typedef struct {
+    bool is_method;
+    uint16_t index;
+    uint16_t flags;
+    uint16_t attributes;
+} cmcore_member;
+
+/* The first one of this name and descriptor. OK, NONE. */
+int32_t cmcore_record_field(cmcore_handle *record, const uint8_t *name, size_t name_len,
+                            const uint8_t *descriptor, size_t descriptor_len,
+                            cmcore_member *member);
+int32_t cmcore_record_method(cmcore_handle *record, const uint8_t *name, size_t name_len,
+                             const uint8_t *descriptor, size_t descriptor_len,
+                             cmcore_member *member);
+
+/* Where the code of a method is; places count bytes from the record's first byte. */
+typedef struct {
+    uint16_t max_stack;
+    uint16_t max_locals;
+    uint16_t handlers;
+    uint32_t code_at;
+    uint32_t code_len;
+    uint32_t handlers_at;
+} cmcore_code;
+
+int32_t cmcore_record_code(cmcore_handle *record, const cmcore_member *method, cmcore_code *code);
+
+/* ---- any handle */
+
+/* Empties a handle, and gives back its memory. What a cache accepted and the caller wasn't told to
+ * be stored may or may not be in the file. Does nothing to an empty handle. OK. */
+int32_t cmcore_release(cmcore_handle *handle);
+
+#endif
