@@ -15,7 +15,8 @@ bytes. `threads`, of cm_bench_files, makes a file and has one thread make a load
 a class, on a cache that is started for threads: it ends with status 3 if that can't be started
 (2 if its words can't be read), and the file, once it is made, holds a beginning of the two
 commands, including all that it reports as stored.
-REFUSALS is the expected number of runs with a refusal; the first without one ends the sweep.
+REFUSALS is the expected number of runs with a refusal, or `any` if it depends on the C library; the
+first without one ends the sweep.
 """
 import copy
 import os
@@ -174,8 +175,9 @@ class Sweep:
                 self.check_script(name, ran)
             if not has_met:
                 break
-        self.checks.check("the number of refusals", refuse - 1 == wanted,
-                          f"{refuse - 1} were met, and not {wanted}")
+        met = refuse - 1
+        self.checks.check("the number of refusals", met == int(wanted) if wanted != "any" else met,
+                          f"{met} were met, and not {wanted}")
         return self.checks.finish()
 
 
@@ -183,7 +185,7 @@ def main(program, library, wanted, *words):
     with tempfile.TemporaryDirectory(dir=os.environ.get("WORK")) as folder:
         lines = (stream_of_threads() if words[0] == "threads"
                  else oracle.lines_of(sys.stdin.buffer.read()))
-        return Sweep(program, library, words, lines, folder).sweep(int(wanted))
+        return Sweep(program, library, words, lines, folder).sweep(wanted)
 
 
 if __name__ == "__main__":

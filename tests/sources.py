@@ -16,8 +16,8 @@ COLUMNS = 100
 UNBROKEN = re.compile(r"\s*(((pub|ghost) )*use [^,]*|#\[.*\])$")
 
 PARTS = ("src", "specs", "proofs")
-SCRIPTS = ("tests/*.py", "tests/*.sh", "tests/*.c", "tests/java/*", "bench/*", "examples/*.py",
-           "tests/run", "tests/ci/*", "bin/*", ".ci/run")
+SCRIPTS = ("tests/*.py", "tests/*.sh", "tests/*.c", "tests/java/*", "tests/c/*", "bench/*", "c/*",
+           "examples/*.py", "examples/*/*", "tests/run", "tests/ci/*", "bin/*", ".ci/run")
 
 
 def columns():
