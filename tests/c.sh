@@ -7,9 +7,9 @@
 #
 # KILLS=N kills N times instead of 50, MOMENTS=N stops the machine at N moments instead of 50,
 # SCRIPTS=N runs N random scripts instead of 200, SEED=N takes others. CM_CORE names another archive
-# than the one of crates/cm_core, which is built by the Rattle kit if it isn't there. Needs a C
-# compiler and Python 3; what else isn't installed is left out: Valgrind, a second compiler, rustc,
-# and a JDK with the module jdk.incubator.foreign.
+# than the one that was built here, or that of the release. Needs a C compiler and Python 3; what
+# else isn't installed is left out: Valgrind, a second compiler, rustc, and a JDK with the module
+# jdk.incubator.foreign.
 
 # Each sweep counts in a subshell of its own, with a folder of its own.
 # shellcheck disable=SC2030,SC2031
@@ -17,14 +17,8 @@ set -u
 cd "$(dirname "$0")/.." || exit 1
 . tests/lib.sh
 
-core=${CM_CORE:-crates/cm_core/out/libcm_core.a}
-if [ ! -f "$core" ] && ! command -v rt >/dev/null; then
-    echo "$core isn't built, and the Rattle kit isn't installed: the C interface is left out"
-    finish
-    exit
-fi
-if [ ! -f "$core" ] && ! (cd crates/cm_core && rt lib) >"$work/log" 2>&1; then
-    tail -n 5 "$work/log"
+if ! core=${CM_CORE:-$(find_core)}; then
+    echo "the static library isn't there, and can't be built"
     echo "0 passed, 1 failed"
     exit 1
 fi

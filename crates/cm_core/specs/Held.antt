@@ -6,7 +6,6 @@ use denote.RattleType.{RattleType}
 use denote.RawPtr.{Ptr}
 use Rattle.std_alloc.specs.Box.Ownership.{box_owns}
 use Rattle.std.specs.contracts.impls.GlobalAllocator.TheImpl.{ghosts}
-use Rattle.std.specs.declared.alloc.Global.{Global}
 
 abbrev pub freed : Ty → Ptr → Fml
 freed = ghosts.dealloc_token (record { memory = record { seal = record {} } })

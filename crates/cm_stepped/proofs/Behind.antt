@@ -1,7 +1,9 @@
 -- The caller's machine, and the session's, which is one call ahead of it.
 -- For `open`, `SteppedSession::accept`, `SteppedSession::find`, `SteppedSession::take_made`.
-use Rattle.std.proofs.Common.{◌≡◌, ℕ, ◌+◌, ◌-◌, ◌≤◌, ◌++◌, List, [], ◌∷◌, length, Option, Some, None, Result}
-use Rattle.std.proofs.Common.{Ok, Err, Bool, true, false, refl, sym, ap, subst, ◌∙◌, arith, inl, inr}
+use Rattle.std.proofs.Common.{◌≡◌, ℕ, ◌+◌, ◌-◌, ◌≤◌, ◌++◌, List, [], ◌∷◌, length, Option, Some}
+use Rattle.std.proofs.Common.{None, Result}
+use Rattle.std.proofs.Common.{Ok, Err, Bool, true, false, refl, sym, ap, subst, ◌∙◌, arith, inl}
+use Rattle.std.proofs.Common.{inr}
 use Rattle.std.proofs.lemmas.List.{length-append, length-take}
 use Rattle.cm_class.specs.declared.class_file.ClassFile.{ClassFile}
 use Rattle.cm_pool.specs.Geometry.{Sizes}
@@ -226,7 +228,7 @@ level_matches k s number i told all works = record {
   works = λ sound. works;
 }
 
--- a machine that goes on from some of another's commands has acknowledged all of its own
+-- a machine that continues from some of another's commands has acknowledged all of its own
 pub reopened_level : (sizes : Sizes) (k : Machine) (contents : List ℕ) (next : Machine)
     → Reopening sizes k contents next
     → (accepted_to next ≡ next.acknowledged) × (next.failed ≡ false)

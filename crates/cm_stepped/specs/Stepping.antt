@@ -62,7 +62,8 @@ is_idle (Ok Call) = false
 is_idle (Ok (Stored number)) = false
 is_idle (Err broken) = false
 
--- The disk noted one more call. At each moment while it is made, a crash leaves what stands for some
+-- The disk noted one more call. At each moment while it is made, a crash leaves what stands for
+-- some
 -- of the machine's commands: all that were acknowledged, and none that wasn't handed out.
 pub record NotesCall {D : Type 0} (view : View D) (called : D → D → Bool → Type 0) (k : Machine)
     (old : SteppedSession D) (ok : Bool) (new : SteppedSession D) : Type 0 where

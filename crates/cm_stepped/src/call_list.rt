@@ -50,7 +50,7 @@ impl CallList {
         })
     }
 
-    /// The calls that make a file of version 1, with these bytes, one of the version that is written
+    /// The calls that bring a file of version 1, with these bytes, to the version that is written
     /// now. A crash between any of them, or in one, leaves a file with the same loaders and
     /// classes. A file that is up to date is synced alone.
     ///

@@ -16,7 +16,6 @@ use denote.Triple.Entry.{alive}
 use denote.RattleType.{owns}
 use denote.Triple.Walked.{Stays, walk_of}
 use Rattle.std.proofs.raw_atomic.Walks.{proved_at, leaves}
-use Rattle.cm_core.specs.contracts.handle.Piece.{the_row}
 use Rattle.cm_core.specs.contracts.handle.Piece.none as f
 use Rattle.cm_core.proofs.Pieces.{alone, piece_none}
 use Rattle.cm_core.proofs.handle.Piece.none.Statement.{statement}
@@ -27,10 +26,17 @@ none_spec 𝓤 𝓛 𝓜 𝓡 wired =
     let H = 𝓛.H in let 𝓣 = tables 𝓤 H 𝓜 𝓡 𝓡.env in let c = f.clauses 𝓛 𝓜.mem 𝓡.returns in
     let hs : Stays f.ended.signature.params f.ended.kept = tt in
     proved_at 𝓛 f.ended hs c 𝓜 𝓡 tt f.Key.name code.function (code.unfolded 𝓤 H 𝓜 𝓡 wired) (λ z are.
-    let Post : Val → SProp 𝓤 = (walk_of 𝓛 f.ended hs c).post z in let w : Val = alone (vint w64 0) in
-    qed 𝓛 ((raw (alive 𝓛 f.signature z.0.0 z.0.1) ⊛ ‵ (owns [] z.0.3 z.0.4)) ∷ ‵ ftrue ∷ []) ∵ split ! $ keep ! (0 ∷ []) $
+    let Post : Val → SProp 𝓤 = (walk_of 𝓛 f.ended hs c).post z in let w : Val = alone (vint w64 0)
+    in
+    qed 𝓛 ((raw (alive 𝓛 f.signature z.0.0 z.0.1) ⊛ ‵ (owns [] z.0.3 z.0.4)) ∷ ‵ ftrue ∷ []) ∵ split
+    ! $ keep ! (0 ∷ []) $
     enter ! 𝓣.C 𝓣.Λ code.function [] Post $ alloc_all ! (λ l. pass_all ! refl tt $
     sets ! (agg ! (and_then ! (lit ! tt) (no_more !))) refl (tt, (record { fits = lit< tt }, tt)) $
     returns ! (look_at ! 0 refl) $ free_all ! refl $
-    piece_none ! $ use0 𝓛 (raw (fact 𝓤 (false ≡ false))) (fact_i 𝓤 (false ≡ false) (emp 𝓤) refl) $ nothing ! $
-    keep ! (3 ∷ 0 ∷ 2 ∷ 1 ∷ []) $ by ! (leaves 𝓛 f.ended hs c z w (record { at = null_ptr; full = false }) tt tt)))
+    piece_none ! $ use0 𝓛 (raw (fact 𝓤 (false ≡ false))) (fact_i 𝓤 (false ≡ false) (emp 𝓤) refl) $
+    nothing ! $
+    keep ! (3 ∷ 0 ∷ 2 ∷ 1 ∷ []) $ by ! (leaves 𝓛 f.ended hs c z w (record {
+      at = null_ptr;
+      full =
+          false;
+    }) tt tt)))
