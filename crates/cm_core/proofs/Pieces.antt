@@ -26,7 +26,8 @@ alone v = vstruct (vcons v vnil)
 
 module _ {M : Type 1} {𝓤 : Ura M} {𝓛 : Logic 𝓤} {K : Type 0} {Γ : List (Item 𝓤)} {G : Goal 𝓤 𝓛.H}
   where
-    pub piece_none : K → Step K 𝓛 (‵ ((piece.the_row).own_val (record { at = null_ptr; full = false })
+    pub piece_none : K
+        → Step K 𝓛 (‵ ((piece.the_row).own_val (record { at = null_ptr; full = false })
         (alone (ptr_val null_ptr) ∷ [])) ∷ Γ) G Γ G
     piece_none t = step (λ s. let v : Val = alone (ptr_val null_ptr) in
         nothing t $ nothing t $ feq_i t (List Val) (ptr_val null_ptr ∷ []) (ptr_val null_ptr ∷ [])
@@ -43,7 +44,8 @@ module _ {M : Type 1} {𝓤 : Ura M} {𝓛 : Logic 𝓤} {K : Type 0} {Γ : List
         (‵ (box_owns freed inner (block_ptr b o) x) ∷ Γ) G
     piece_in t b o x = step (λ s. let v : Val = alone (vptr b o) in
         fpack t inner.Denot (λ x. box_owns freed inner (block_ptr b o) x) x $
-        nothing t $ feq_i t (List Val) (vptr b o ∷ []) (vptr b o ∷ []) refl $ fjoin t $ feq_i t (List
+        nothing t $ feq_i t (List Val) (vptr b o ∷ []) (vptr b o ∷ []) refl $ fjoin t $
+        feq_i t (List
         Val) (v ∷ []) (v ∷ []) refl $ fjoin t $
         fpack t (Valss (RawPtr ∷ [])) (within (shape piece.the_type) (block_ptr b o, tt) (v ∷ []))
         (vptr b o ∷ [], tt) $ fjoin t $ s)
