@@ -560,8 +560,9 @@ static void fails_for_threads(void)
     CHECK(acknowledged > 0 && acknowledged <= 64);
     EXPECT(CMCACHE_DEVICE, cmcache_close(shared));
     limit_files(RLIM_INFINITY);
+    shared = NULL;
     EXPECT(CMCORE_OK, cmcache_open(path_of("failing"), &shared, NULL));
-    for (int at = 0; at < THREADS; at++)
+    for (int at = 0; shared != NULL && at < THREADS; at++)
         for (int class = 0; class < shares[at].acknowledged; class++) {
             cmcache_record record = {0};
             char letter = (char)('A' + class);
