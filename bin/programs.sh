@@ -25,11 +25,12 @@ released_programs() {
     sed '1,3d; s/ .*//' "$repository/release/list.txt"
 }
 
-# built_as NAME: where a program of the release, or the library, is once it is built.
+# built_as NAME [FOLDER]: where a program of the release, or the library, is once it is built, in this
+# repository or in the copy of it in this folder.
 built_as() {
     case $1 in
-        libcm_core.a) echo "$repository/crates/cm_core/out/$1" ;;
-        *) echo "$repository/crates/$1/out/$1" ;;
+        libcm_core.a) echo "${2:-$repository}/crates/cm_core/out/$1" ;;
+        *) echo "${2:-$repository}/crates/$1/out/$1" ;;
     esac
 }
 

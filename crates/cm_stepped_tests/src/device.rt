@@ -8,11 +8,12 @@ use std::test::*;
 pub fn make(file: &mut Vec<u8>, call: Call<'_>) -> Result<(), Fail> {
     match call {
         Call::Write { at, bytes } => {
-            let at = at as usize;
-            while file.len() < at + bytes.len() {
-                file.push(0)?;
+            for (index, byte) in bytes.iter().enumerate() {
+                match file.get_mut((at as usize).saturating_add(index)) {
+                    Some(old) => *old = *byte,
+                    None => file.push(*byte)?, // a write begins within the file
+                }
             }
-            file[at..at + bytes.len()].copy_from_slice(bytes);
         }
         Call::Cut { len } => file.truncate(len as usize),
         Call::Sync => {}

@@ -62,7 +62,7 @@ fn run(
             break;
         }
         if make_noted(session, file)? {
-            made += 1;
+            made = made.saturating_add(1);
         }
     }
     Ok(session.stored())
