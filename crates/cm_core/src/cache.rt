@@ -34,7 +34,13 @@ pub extern "C" fn cmcore_open(
 }
 
 // Accepts a command.
-fn accept(cache: &mut SteppedSession<DeferredDisk>, command: Command<'_>, number: &mut u64) -> i32 {
+fn accept(cache: &mut SteppedSession<DeferredDisk>, command: Command<'_>, number: &mut u64) -> i32
+    ensures { (answer : Result ℕ Reason) × ((k : Machine) → SteppedMatches k cache.old
+        → cache.old.is_broken ≡ false
+        → Accepting cache.old.session.committer.sizes k (change_asked command.entry) answer
+        (λ next. SteppedMatches next cache.new)) × (result ≡ accept_status answer)
+        × (number.new ≡ number_told number.old answer) }
+{
     match cache.accept(command) {
         Ok(accepted) => {
             *number = accepted;
