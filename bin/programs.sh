@@ -25,8 +25,8 @@ released_programs() {
     sed '1,3d; s/ .*//' "$repository/release/list.txt"
 }
 
-# built_as NAME [FOLDER]: where a program of the release, or the library, is once it is built, in this
-# repository or in the copy of it in this folder.
+# built_as NAME [FOLDER]: where a program of the release, or the library, is once it is built, in
+# this repository or in the copy of it in this folder.
 built_as() {
     case $1 in
         libcm_core.a) echo "${2:-$repository}/crates/cm_core/out/$1" ;;
