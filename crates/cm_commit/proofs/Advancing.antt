@@ -613,7 +613,8 @@ pub some_stages : (j : JournalEnd) (rows : List BareRow) (roots : ℕ) (group : 
     → plan_left j rows roots group now ≡ [] → ⊥
 some_stages j rows roots group (plan.Checkpoint at) isnt own e =
     some_behind (checkpoint_left j rows at) _ _ e
-some_stages j rows roots group (plan.Group (step.Write r from)) isnt own e = absurd (cc)
+some_stages j rows roots group (plan.Group (step.Grow r)) isnt own e = absurd (cc)
+some_stages j rows roots group (plan.Group (step.Write entry n)) isnt own e = absurd (cc)
 some_stages j rows roots group (plan.Group step.Sync) isnt own e = absurd (cc)
 some_stages j rows roots group (plan.Group step.Gate) isnt own e = absurd (cc)
 some_stages j rows roots group (plan.Group step.LastSync) isnt own e = absurd (cc)

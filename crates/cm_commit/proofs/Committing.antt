@@ -1,14 +1,13 @@
 -- What taking a group does to what a committer keeps.
 -- For `Committer::advance`, `may_join` and others.
-use Rattle.std.proofs.Common.{◌≡◌, ℕ, ◌+◌, ◌*◌, ◌^◌, ◌≤◌, inl, inr, Bool, true, false, cond, List}
+use Rattle.std.proofs.Common.{◌≡◌, ℕ, ◌+◌, ◌*◌, ◌^◌, ◌≤◌, inl, inr, true, List}
 use Rattle.std.proofs.Common.{[], ◌∷◌, ◌++◌, length, None, is_none, refl, ap, subst, arith}
 use Rattle.std.proofs.Common.{◌∙◌, length-append}
-use Rattle.std.specs.Prelude.{nat_lt, nat_le, not, ◌==◌}
+use Rattle.std.specs.Prelude.{nat_lt, nat_le, ◌==◌}
 use Rattle.std.specs.List.{AllByRecursion, list_all}
 use Rattle.std.proofs.lemmas.Bool.{eq-eqb, lt-ltb, le-leb, and_from}
 use Rattle.std.proofs.Math.Pow.{pow_mono}
-use Rattle.cm_pool.specs.declared.chunk.Chunk.{Chunk}
-use Rattle.cm_pool.specs.Chunks.{chunk_size, same_chunk}
+use Rattle.cm_pool.specs.Chunks.{chunk_size}
 use Rattle.cm_pool.specs.Geometry.{Sizes, IsGeometry}
 use Rattle.cm_pool.specs.declared.place.Place.{Place}
 use Rattle.cm_pool.specs.Lists.{Among}
@@ -20,8 +19,8 @@ use Rattle.cm_layout.specs.Names.{unload_limit}
 use Rattle.cm_layout.specs.Slots.{FitsEntry}
 use Rattle.cm_layout.specs.Offsets.{root_size}
 use Rattle.cm_layout.specs.declared.move_entry.Move.{Move}
-use Rattle.cm_layout.specs.Rows.{bare, numbers_in, rows_after, without_loader, without_loaders}
-use Rattle.cm_layout.specs.Rows.{is_of, moved}
+use Rattle.cm_layout.specs.Rows.{bare, numbers_in, rows_after}
+use Rattle.cm_layout.specs.Rows.{moved}
 use Rattle.cm_layout.specs.Rows.{used_words, kept_on}
 use Rattle.cm_layout.specs.Rules.{broken_rule}
 use Rattle.cm_layout.specs.Frames.{BareRow, LiveRowsKeep, bare_entry}

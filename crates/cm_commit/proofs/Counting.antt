@@ -1,7 +1,7 @@
 -- How many device calls a plan is.
 -- For `calls_at`, `plans_have_steps`.
 use Rattle.std.proofs.Common.{◌≡◌, ℕ, zero, suc, ◌+◌, ◌-◌, Bool, true, false, cond, List, [], ◌∷◌}
-use Rattle.std.proofs.Common.{◌++◌, length, drop, arith, refl}
+use Rattle.std.proofs.Common.{◌++◌, length, arith, refl}
 use Rattle.std.proofs.lemmas.List.{length-append, length-map}
 use Rattle.cm_pool.specs.Geometry.{Sizes}
 use Rattle.cm_pool.specs.declared.place.Place.{Place}
@@ -17,7 +17,8 @@ use Rattle.cm_commit.specs.declared.step.CheckpointStep.{CheckpointStep}
 use Rattle.cm_commit.specs.declared.step.CheckpointStep.TheVariants as checkpoint
 use Rattle.cm_commit.specs.Committed.{journal_of}
 use Rattle.cm_commit.specs.Checkpoints.{is_due, renewed_journal, checkpoint_of, shut_stages}
-use Rattle.cm_commit.specs.Steps.{stages_at, half_gate, renewed_half, shut_sync, checkpoint_left}
+use Rattle.cm_commit.specs.Steps.{stages_at, writes_from, half_gate, renewed_half, shut_sync}
+use Rattle.cm_commit.specs.Steps.{checkpoint_left}
 use Rattle.cm_commit.specs.GroupPlans.{root_writes, all_writes, record_writes, place_write}
 use Rattle.cm_commit.specs.GroupPlans.{whole_roots, slots_write, roots_of_entries}
 use Rattle.cm_commit.specs.GroupPlans.{plan_at, plan_of}
@@ -33,14 +34,13 @@ writes-count sizes writes =
     length-map writes (λ (w : Place × List ℕ). place_write sizes w.0 w.1)
 
 -- how many calls of a group are left while it is written
-pub calls_write : (j : JournalEnd) (group : Handed) (roots from : ℕ)
-    → calls_left (stages_at j group (step.Write roots from))
-    ≡ roots_of_entries (entries_in group.entries) - roots
-    + length (drop from (all_writes group.entries)) + 4
-calls_write j group roots from =
-    let more = roots_of_entries (entries_in group.entries) - roots in
-    let zeros = root_writes j.geometry roots more in
-    let unwritten = drop from (all_writes group.entries) in
+pub calls_write : (j : JournalEnd) (group : Handed) (entry n : ℕ)
+    → calls_left (stages_at j group (step.Write entry n))
+    ≡ length (writes_from entry n group.entries) + 4
+calls_write j group entry n =
+    let needed = roots_of_entries (entries_in group.entries) in
+    let zeros = root_writes j.geometry needed (needed - needed) in
+    let unwritten = writes_from entry n group.entries in
     let records = record_writes j.geometry unwritten in
     let slots = slots_write j.geometry j.half j.end j.number (entries_in group.entries) ∷ [] in
     omega (
@@ -48,11 +48,11 @@ calls_write j group roots from =
       length-append (zeros ++ records) slots,
       length-append zeros records,
       writes-count j.geometry unwritten,
-      root-count j.geometry roots more,
+      root-count j.geometry needed (needed - needed),
     )
 
 -- how many are left before its first call
-group_counts : (sizes : Sizes) (half : Half) (slot n roots : ℕ) (carried : List Carried)
+pub group_counts : (sizes : Sizes) (half : Half) (slot n roots : ℕ) (carried : List Carried)
     → calls_left (plan_at sizes half slot n roots carried)
     ≡ 4 + (roots_of_entries (entries_in carried) - roots) + length (all_writes carried)
 group_counts sizes half slot n roots carried =

@@ -1,7 +1,9 @@
 -- The records that a group writes, one after another.
--- For `all_writes`, `nth_write`, `write_next`.
+-- For `all_writes`, `next_write`, `write_next`, `writes_from`.
 use Rattle.std.proofs.Common.{◌≡◌, ℕ, zero, suc, ◌+◌, ◌-◌, ◌*◌, ◌<◌, ◌≤◌, List, [], ◌∷◌, ◌++◌}
-use Rattle.std.proofs.Common.{◌^◌, length, drop, get_or, Some, None, refl, sym, ap, ◌∙◌, arith}
+use Rattle.std.proofs.Common.{◌^◌, length, drop, get_or, Some, None, refl, sym, ap, subst, ◌∙◌}
+use Rattle.std.proofs.Common.{arith, length-drop}
+use Rattle.std.proofs.lemmas.List.{length-append}
 use Rattle.std.specs.Prelude.{min}
 use Rattle.std.specs.List.{slice_get}
 use Rattle.cm_pool.specs.declared.chunk.Chunk.{Chunk}
@@ -14,7 +16,7 @@ use Rattle.cm_layout.specs.Rows.{move_writes}
 use Rattle.cm_layout.specs.Frames.{bare_entry}
 use Rattle.cm_group.specs.Groups.{Carried, offsets_from}
 use Rattle.cm_commit.specs.GroupPlans.{writes_of, all_writes}
-use Rattle.cm_commit.specs.Steps.{AreSmall, HaveOffsets}
+use Rattle.cm_commit.specs.Steps.{AreSmall, HaveOffsets, writes_from}
 use Rattle.cm_commit.proofs.Applied.{next_is}
 
 -- ---- one of a list
@@ -24,6 +26,11 @@ module _ {X : Type 0} where
   get-past [] n none = omega arith
   get-past (x ∷ xs) zero none = absurd (cc)
   get-past (x ∷ xs) (suc n) none = let rest = get-past xs n none in omega (arith, rest)
+
+  pub get-within : (xs : List X) (n : ℕ) (x : X) → slice_get xs n ≡ Some x → n < length xs
+  get-within [] n x is = absurd (cc)
+  get-within (w ∷ xs) zero x is = omega arith
+  get-within (w ∷ xs) (suc n) x is = let rest = get-within xs n x is in omega (arith, rest)
 
   pub get-first : (xs ys : List X) (n : ℕ) (x : X) → slice_get xs n ≡ Some x
       → slice_get (xs ++ ys) n ≡ Some x
@@ -107,11 +114,142 @@ pub next_writes : (carried : List Carried) (at : ℕ) (c : Carried) → at < len
     ≡ writes_of c.entry c.moved ++ all_writes (drop (at + 1) carried)
 next_writes carried at c lt is = ap all_writes (next_is carried at c lt is)
 
-pub small_at : (size : ℕ) (writes : List (Place × List ℕ)) (n : ℕ) (place : Place)
-    (words : List ℕ) → AreSmall size writes → slice_get writes n ≡ Some (place, words)
+-- ---- small ones
+
+small-front : (size : ℕ) (xs ys : List (Place × List ℕ)) → AreSmall size (xs ++ ys)
+    → AreSmall size xs
+small-front size [] ys all = tt
+small-front size (x ∷ xs) ys all = (all.0, small-front size xs ys all.1)
+
+small-back : (size : ℕ) (xs ys : List (Place × List ℕ)) → AreSmall size (xs ++ ys)
+    → AreSmall size ys
+small-back size [] ys all = all
+small-back size (x ∷ xs) ys all = small-back size xs ys all.1
+
+small-both : (size : ℕ) (xs ys : List (Place × List ℕ)) → AreSmall size xs → AreSmall size ys
+    → AreSmall size (xs ++ ys)
+small-both size [] ys one two = two
+small-both size (x ∷ xs) ys one two = (one.0, small-both size xs ys one.1 two)
+
+small-drop : (size : ℕ) (xs : List (Place × List ℕ)) (n : ℕ) → AreSmall size xs
+    → AreSmall size (drop n xs)
+small-drop size [] zero all = tt
+small-drop size [] (suc n) all = tt
+small-drop size (x ∷ xs) zero all = all
+small-drop size (x ∷ xs) (suc n) all = small-drop size xs n all.1
+
+-- ---- from a record of an entry on
+
+pub from_start : (carried : List Carried) → writes_from 0 0 carried ≡ all_writes carried
+from_start [] = refl
+from_start (c ∷ carried) = refl
+
+pub from_past : (carried : List Carried) (entry n : ℕ) → length carried ≤ entry
+    → writes_from entry n carried ≡ []
+from_past [] entry n le = refl
+from_past (c ∷ carried) zero n le = absurd (omega (arith, le))
+from_past (c ∷ carried) (suc entry) n le = from_past carried entry n (omega (arith, le))
+
+pub from_first : (carried : List Carried) (entry : ℕ)
+    → writes_from entry 0 carried ≡ all_writes (drop entry carried)
+from_first [] zero = refl
+from_first [] (suc entry) = refl
+from_first (c ∷ carried) zero = refl
+from_first (c ∷ carried) (suc entry) = from_first carried entry
+
+pub from_entry : (carried : List Carried) (entry n : ℕ) (c : Carried) → entry < length carried
+    → c ≡ get_or carried entry c
+    → writes_from entry n carried
+    ≡ drop n (writes_of c.entry c.moved) ++ all_writes (drop (entry + 1) carried)
+from_entry [] entry n c lt is = absurd (omega (arith, lt))
+from_entry (d ∷ carried) zero n c lt is =
+    ap (λ (k : Carried). drop n (writes_of k.entry k.moved) ++ all_writes carried) (sym is)
+from_entry (d ∷ carried) (suc entry) n c lt is =
+    let later : suc (entry + 1) ≡ suc entry + 1 = omega arith in
+    from_entry carried entry n c (omega (arith, lt)) is
+    ∙ ap (λ (k : ℕ). drop n (writes_of c.entry c.moved) ++ all_writes (drop k (d ∷ carried))) later
+
+-- those of an entry are among all of them
+
+pub from_few : (carried : List Carried) (entry : ℕ) (c : Carried) → entry < length carried
+    → c ≡ get_or carried entry c
+    → length (writes_of c.entry c.moved) + length (all_writes (drop (entry + 1) carried))
+    ≤ length (all_writes carried)
+from_few [] entry c lt is = absurd (omega (arith, lt))
+from_few (d ∷ carried) zero c lt is =
+    let same = ap (λ (k : Carried). length (writes_of k.entry k.moved)) is in
+    omega (arith, same, length-append (writes_of d.entry d.moved) (all_writes carried))
+from_few (d ∷ carried) (suc entry) c lt is =
+    let later : suc (entry + 1) ≡ suc entry + 1 = omega arith in
+    omega (
+      arith,
+      from_few carried entry c (omega (arith, lt)) is,
+      ap (λ (k : ℕ). length (all_writes (drop k (d ∷ carried)))) later,
+      length-append (writes_of d.entry d.moved) (all_writes carried),
+    )
+
+pub from_count : (carried : List Carried) (entry n : ℕ) (c : Carried) → entry < length carried
+    → c ≡ get_or carried entry c
+    → length (writes_from entry n carried)
+    ≡ length (writes_of c.entry c.moved) - n + length (all_writes (drop (entry + 1) carried))
+from_count carried entry n c lt is =
+    let writes = writes_of c.entry c.moved in
+    let rest = all_writes (drop (entry + 1) carried) in
+    omega (
+      arith,
+      ap length (from_entry carried entry n c lt is),
+      length-append (drop n writes) rest,
+      length-drop n writes,
+    )
+
+pub offsets_of : (carried : List Carried) (entry : ℕ) (c : Carried) → entry < length carried
+    → c ≡ get_or carried entry c → HaveOffsets (all_writes carried)
+    → HaveOffsets (writes_of c.entry c.moved)
+offsets_of [] entry c lt is have = absurd (omega (arith, lt))
+offsets_of (d ∷ carried) zero c lt is have =
+    subst (λ (k : Carried). HaveOffsets (writes_of k.entry k.moved)) (sym is)
+    (have-front (writes_of d.entry d.moved) (all_writes carried) have)
+offsets_of (d ∷ carried) (suc entry) c lt is have =
+    offsets_of carried entry c (omega (arith, lt)) is
+    (have-back (writes_of d.entry d.moved) (all_writes carried) have)
+
+-- the next one of them
+
+pub from_next : (carried : List Carried) (entry n : ℕ) (c : Carried) (w : Place × List ℕ)
+    → entry < length carried → c ≡ get_or carried entry c
+    → slice_get (writes_of c.entry c.moved) n ≡ Some w
+    → writes_from entry n carried ≡ w ∷ writes_from entry (n + 1) carried
+from_next carried entry n c w lt is found =
+    let writes = writes_of c.entry c.moved in
+    let rest = all_writes (drop (entry + 1) carried) in
+    from_entry carried entry n c lt is
+    ∙ (ap (λ (l : List (Place × List ℕ)). l ++ rest) (drop-at writes n w found)
+    ∙ ap (λ (l : List (Place × List ℕ)). w ∷ l) (sym (from_entry carried entry (n + 1) c lt is)))
+
+pub from_none : (carried : List Carried) (entry n : ℕ) (c : Carried) → entry < length carried
+    → c ≡ get_or carried entry c → slice_get (writes_of c.entry c.moved) n ≡ None
+    → writes_from (entry + 1) 0 carried ≡ writes_from entry n carried
+from_none carried entry n c lt is none =
+    let writes = writes_of c.entry c.moved in
+    let rest = all_writes (drop (entry + 1) carried) in
+    from_first carried (entry + 1)
+    ∙ (ap (λ (l : List (Place × List ℕ)). l ++ rest) (sym (drop-past writes n none))
+    ∙ sym (from_entry carried entry n c lt is))
+
+pub small_first : (size : ℕ) (writes rest : List (Place × List ℕ)) (place : Place)
+    (words : List ℕ) → AreSmall size writes → writes ≡ (place, words) ∷ rest
     → 8 * length words ≤ size
-small_at size [] n place words all is = absurd (cc)
-small_at size (w ∷ writes) zero place words all is =
-    let same : w.1 ≡ words = cc in omega (arith, ap length same, all.0)
-small_at size (w ∷ writes) (suc n) place words all is =
-    small_at size writes n place words all.1 is
+small_first size writes rest place words all is =
+    (subst (AreSmall size) is all).0
+
+pub small_from : (size : ℕ) (carried : List Carried) (entry n : ℕ)
+    → AreSmall size (all_writes carried) → AreSmall size (writes_from entry n carried)
+small_from size [] entry n all = tt
+small_from size (c ∷ carried) zero n all =
+    let writes = writes_of c.entry c.moved in
+    small-both size (drop n writes) (all_writes carried)
+    (small-drop size writes n (small-front size writes (all_writes carried) all))
+    (small-back size writes (all_writes carried) all)
+small_from size (c ∷ carried) (suc entry) n all =
+    small_from size carried entry n
+    (small-back size (writes_of c.entry c.moved) (all_writes carried) all)

@@ -1,21 +1,24 @@
 -- The next write of a group, and what is left after it.
--- For `write_next`, `write_slots`.
+-- For `grow`, `write_next`, `write_slots`.
 use Rattle.std.proofs.Common.{◌≡◌, ℕ, zero, suc, ◌+◌, ◌-◌, ◌<◌, ◌≤◌, List, [], ◌∷◌, ◌++◌}
-use Rattle.std.proofs.Common.{drop, Some, None, refl, sym, ap, subst, ◌∙◌, arith}
+use Rattle.std.proofs.Common.{refl, sym, ap, subst, ◌∙◌, arith}
 use Rattle.std.specs.Prelude.{Result, Ok, Err}
-use Rattle.std.specs.List.{slice_get}
 use Rattle.std.proofs.lemmas.Bool.{false≢true}
 use Rattle.cm_disk.specs.Disk.{View}
 use Rattle.cm_pool.specs.Geometry.{Sizes}
 use Rattle.cm_pool.specs.declared.place.Place.{Place}
 use Rattle.cm_layout.specs.declared.half.Half.{Half}
 use Rattle.cm_guards.specs.Plans.{Write}
-use Rattle.cm_group.specs.Groups.{Carried, entries_in}
-use Rattle.cm_guards.specs.Stages.{Stage, Store, after_call}
+use Rattle.cm_layout.specs.Slots.{open_gate}
+use Rattle.cm_group.specs.Groups.{Carried, Handed, entries_in}
+use Rattle.cm_guards.specs.Stages.{Stage, Store, Turn, after_call}
 use Rattle.cm_commit.specs.GroupPlans.{root_write, root_writes, place_write, record_writes}
-use Rattle.cm_commit.specs.GroupPlans.{slots_write, writes_left, roots_of_entries}
+use Rattle.cm_commit.specs.GroupPlans.{slots_write, writes_left, all_writes, roots_of_entries}
+use Rattle.cm_commit.specs.declared.journal_end.JournalEnd.{JournalEnd}
+use Rattle.cm_commit.specs.declared.step.CommitStep.TheVariants as step
+use Rattle.cm_commit.specs.Steps.{stages_at, next_gate}
 use Rattle.cm_guards.specs.Stages.{MakesWrite, CallsOnce, TakesCall, TakesWrite}
-use Rattle.cm_commit.proofs.NextRecords.{drop-at, drop-past}
+use Rattle.cm_commit.proofs.NextRecords.{from_start}
 
 module _ (sizes : Sizes) (half : Half) (slot n : ℕ) (carried : List Carried) (roots : ℕ) where
   abbrev needed : ℕ
@@ -36,27 +39,39 @@ module _ (sizes : Sizes) (half : Half) (slot n : ℕ) (carried : List Carried) (
       let none : needed - roots ≡ zero = omega (arith, le) in
       ap (root_writes sizes roots) none
 
-  pub next_place : (writes : List (Place × List ℕ)) (from : ℕ) (place : Place) (words : List ℕ)
-      → needed ≤ roots → slice_get writes from ≡ Some (place, words)
-      → writes_left sizes half slot n carried roots (drop from writes)
+  pub next_place : (unwritten rest : List (Place × List ℕ)) (place : Place) (words : List ℕ)
+      → needed ≤ roots → unwritten ≡ (place, words) ∷ rest
+      → writes_left sizes half slot n carried roots unwritten
       ≡ place_write sizes place words
-      ∷ writes_left sizes half slot n carried roots (drop (from + 1) writes)
-  next_place writes from place words le is =
-      ap (λ (l : List Write). l ++ record_writes sizes (drop from writes) ++ slots ∷ [])
-      (no_root le)
-      ∙ (ap (λ (l : List (Place × List ℕ)). record_writes sizes l ++ slots ∷ [])
-      (drop-at writes from (place, words) is)
+      ∷ writes_left sizes half slot n carried roots rest
+  next_place unwritten rest place words le is =
+      ap (λ (l : List Write). l ++ record_writes sizes unwritten ++ slots ∷ []) (no_root le)
+      ∙ (ap (λ (l : List (Place × List ℕ)). record_writes sizes l ++ slots ∷ []) is
       ∙ ap (λ (l : List Write). place_write sizes place words
-      ∷ (l ++ record_writes sizes (drop (from + 1) writes) ++ slots ∷ [])) (sym (no_root le)))
+      ∷ (l ++ record_writes sizes rest ++ slots ∷ [])) (sym (no_root le)))
 
-  pub next_slots : (writes : List (Place × List ℕ)) (from : ℕ) → needed ≤ roots
-      → slice_get writes from ≡ None
-      → writes_left sizes half slot n carried roots (drop from writes) ≡ slots ∷ []
-  next_slots writes from le none =
-      ap (λ (l : List Write). l ++ record_writes sizes (drop from writes) ++ slots ∷ [])
-      (no_root le)
-      ∙ ap (λ (l : List (Place × List ℕ)). record_writes sizes l ++ slots ∷ [])
-      (drop-past writes from none)
+  pub next_slots : (unwritten : List (Place × List ℕ)) → needed ≤ roots → unwritten ≡ []
+      → writes_left sizes half slot n carried roots unwritten ≡ slots ∷ []
+  next_slots unwritten le none =
+      ap (λ (l : List Write). l ++ record_writes sizes unwritten ++ slots ∷ []) (no_root le)
+      ∙ ap (λ (l : List (Place × List ℕ)). record_writes sizes l ++ slots ∷ []) none
+
+-- once the file has enough roots, the records come
+pub grown : (j : JournalEnd) (group : Handed) (roots : ℕ)
+    → roots_of_entries (entries_in group.entries) ≤ roots
+    → stages_at j group (step.Write 0 0) ≡ stages_at j group (step.Grow roots)
+grown j group roots le =
+    let carried = group.entries in
+    let needed = roots_of_entries (entries_in carried) in
+    let gate = Turn (next_gate j) open_gate ∷ [] in
+    let slots = slots_write j.geometry j.half j.end j.number (entries_in carried) in
+    let records = record_writes j.geometry (all_writes carried) in
+    ap (λ (l : List (Place × List ℕ)). Store (writes_left j.geometry j.half j.end j.number carried
+    needed l) ∷ gate) (from_start carried)
+    ∙ (ap (λ (l : List Write). Store (l ++ records ++ slots ∷ []) ∷ gate)
+    (no_root j.geometry j.half j.end j.number carried needed (omega arith))
+    ∙ ap (λ (l : List Write). Store (l ++ records ++ slots ∷ []) ∷ gate)
+    (sym (no_root j.geometry j.half j.end j.number carried roots le)))
 
 -- ---- stages that begin with these writes
 

@@ -1,6 +1,6 @@
 -- The steps that a committer takes through a checkpoint and a group's plan.
-use Rattle.std.specs.Prelude.{◌≡◌, ℕ, ◌+◌, ◌-◌, ◌*◌, ◌^◌, ◌<◌, ◌≤◌, Bool, true, false, List, []}
-use Rattle.std.specs.Prelude.{◌∷◌, ◌++◌, drop, Option}
+use Rattle.std.specs.Prelude.{◌≡◌, ℕ, zero, suc, ◌+◌, ◌-◌, ◌*◌, ◌^◌, ◌<◌, ◌≤◌, Bool, true, false}
+use Rattle.std.specs.Prelude.{List, [], ◌∷◌, ◌++◌, drop, Option}
 use Rattle.std.specs.Prelude.{Some, None, length}
 use Rattle.std.specs.List.{flat_map, AllByRecursion}
 use Rattle.cm_pool.specs.Geometry.{Sizes, IsGeometry}
@@ -12,7 +12,7 @@ use Rattle.cm_layout.specs.Rows.{slots_of_rows, bare}
 use Rattle.cm_layout.specs.Rules.{row_limit}
 use Rattle.cm_layout.specs.Frames.{BareRow}
 use Rattle.cm_layout.specs.Framing.{other_half}
-use Rattle.cm_group.specs.Groups.{Handed, entries_in, slots_taken}
+use Rattle.cm_group.specs.Groups.{Carried, Handed, entries_in, slots_taken}
 use Rattle.cm_commit.specs.declared.journal_end.JournalEnd.{JournalEnd}
 use Rattle.cm_commit.specs.declared.step.CommitStep.{CommitStep}
 use Rattle.cm_commit.specs.declared.step.CommitStep.TheVariants as step
@@ -26,7 +26,7 @@ use Rattle.cm_guards.specs.Plans.{Write}
 use Rattle.cm_guards.specs.Stages.{Stage, Store, Turn, MakeDurable}
 use Rattle.cm_commit.specs.Checkpoints.{next_head, half_write, half_stages, checkpoint_of}
 use Rattle.cm_commit.specs.Checkpoints.{target_of}
-use Rattle.cm_commit.specs.GroupPlans.{writes_left, all_writes, roots_of_entries}
+use Rattle.cm_commit.specs.GroupPlans.{writes_left, writes_of, all_writes, roots_of_entries}
 use Rattle.cm_commit.specs.States.{Work, Storing, Trimming, CommitterState}
 use Rattle.cm_commit.specs.Trims.{trim_plan}
 
@@ -34,11 +34,21 @@ use Rattle.cm_commit.specs.Trims.{trim_plan}
 abbrev pub next_gate : JournalEnd → ℕ
 next_gate j = slot_at j.geometry j.half j.end
 
+-- what entries write from a record of one of them on
+abbrev pub writes_from : ℕ → ℕ → List Carried → List (Place × List ℕ)
+writes_from entry n [] = []
+writes_from zero n (c ∷ carried) = drop n (writes_of c.entry c.moved) ++ all_writes carried
+writes_from (suc entry) n (c ∷ carried) = writes_from entry n carried
+
 -- the stages that are left at a step
 abbrev pub stages_at : JournalEnd → Handed → CommitStep → List Stage
-stages_at j group (step.Write roots from) =
+stages_at j group (step.Grow roots) =
     Store (writes_left j.geometry j.half j.end j.number group.entries roots
-    (drop from (all_writes group.entries)))
+    (all_writes group.entries))
+    ∷ Turn (next_gate j) open_gate ∷ []
+stages_at j group (step.Write entry n) =
+    Store (writes_left j.geometry j.half j.end j.number group.entries
+    (roots_of_entries (entries_in group.entries)) (writes_from entry n group.entries))
     ∷ Turn (next_gate j) open_gate ∷ []
 stages_at j group step.Sync = Store [] ∷ Turn (next_gate j) open_gate ∷ []
 stages_at j group step.Gate = Turn (next_gate j) open_gate ∷ []
@@ -81,7 +91,7 @@ checkpoint_rest j rows (Some at) = checkpoint_left j rows at
 abbrev pub plan_left : JournalEnd → List BareRow → ℕ → Handed → PlanStep → List Stage
 plan_left j rows roots group (plan.Checkpoint at) =
     checkpoint_left j rows at
-    ++ stages_at (target_of j rows group.entries) group (step.Write roots 0)
+    ++ stages_at (target_of j rows group.entries) group (step.Grow roots)
 plan_left j rows roots group (plan.Group s) = stages_at (target_of j rows group.entries) group s
 plan_left j rows roots group (plan.Trim at) = []
 

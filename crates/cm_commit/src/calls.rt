@@ -12,7 +12,7 @@ ghost use Rattle.cm_guards.specs.Stages.{gate_write};
 ghost use Rattle.cm_commit.specs.Steps.{FitsJournal, next_gate, stages_at};
 
 use crate::bytes::{put_record, put_slots, put_zeros};
-use crate::entries::{nth_write, roots_needed};
+use crate::entries::{next_write, roots_needed};
 use crate::journal_end::JournalEnd;
 use crate::step::CommitStep;
 use cm_disk::{DeviceFault, Disk};
@@ -82,45 +82,67 @@ fn write_slots<D: Disk>(
     disk.write_at(at, buffer)
 }
 
-/// Makes the next of the writes of a group and returns the step that follows.
+/// Writes the next record of a group, from this one of this entry's on, or its slots if no record
+/// is left. Returns the step that follows.
 fn write_next<D: Disk>(
     disk: &mut D,
     buffer: &mut Vec<u8>,
     journal: JournalEnd,
     group: &Group,
-    roots: u32,
-    from: usize,
+    entry: usize,
+    number: usize,
 ) -> Result<CommitStep, DeviceFault>
     requires room { root_size journal.geometry ≤ vec_capacity buffer.old }
     requires group { FitsJournal journal group.now }
-    requires fits { TakesCall (stages_at journal group.now (step.Write roots from))
+    requires fits { TakesCall (stages_at journal group.now (step.Write entry number))
         (length (D.view.contents disk.old)) }
     ensures called { CallsOnce D.view
-        (stages_at journal group.now (step.Write roots from)) disk.old disk.new result }
+        (stages_at journal group.now (step.Write entry number)) disk.old disk.new result }
     ensures answered { D.called disk.old disk.new (is_ok result) }
     ensures next { IfOk result (λ s. stages_at journal group.now s
-        ≡ after_call (stages_at journal group.now (step.Write roots from))) }
+        ≡ after_call (stages_at journal group.now (step.Write entry number))) }
     ensures room { vec_capacity buffer.old ≤ vec_capacity buffer.new }
 {
-    if roots < roots_needed(group.entries()) {
-        write_root(disk, buffer, journal.geometry, roots)?;
-        return Ok(CommitStep::Write {
-            roots: roots + 1,
-            from,
-        });
-    }
-    match nth_write(group.entries(), from) {
-        Some((place, class)) => {
-            write_record(disk, buffer, journal.geometry, place, class)?;
+    match next_write(group.entries(), entry, number) {
+        Some(next) => {
+            write_record(disk, buffer, journal.geometry, next.place, next.class)?;
             Ok(CommitStep::Write {
-                roots,
-                from: from + 1,
+                entry: next.entry,
+                number: next.number,
             })
         }
         None => {
             write_slots(disk, buffer, journal, group)?;
             Ok(CommitStep::Sync)
         }
+    }
+}
+
+/// Writes the next root of zeros that a group needs, if the file has too few roots, or else the
+/// first record. Returns the step that follows.
+fn grow<D: Disk>(
+    disk: &mut D,
+    buffer: &mut Vec<u8>,
+    journal: JournalEnd,
+    group: &Group,
+    roots: u32,
+) -> Result<CommitStep, DeviceFault>
+    requires room { root_size journal.geometry ≤ vec_capacity buffer.old }
+    requires group { FitsJournal journal group.now }
+    requires fits { TakesCall (stages_at journal group.now (step.Grow roots))
+        (length (D.view.contents disk.old)) }
+    ensures called { CallsOnce D.view
+        (stages_at journal group.now (step.Grow roots)) disk.old disk.new result }
+    ensures answered { D.called disk.old disk.new (is_ok result) }
+    ensures next { IfOk result (λ s. stages_at journal group.now s
+        ≡ after_call (stages_at journal group.now (step.Grow roots))) }
+    ensures room { vec_capacity buffer.old ≤ vec_capacity buffer.new }
+{
+    if roots < roots_needed(group.entries()) {
+        write_root(disk, buffer, journal.geometry, roots)?;
+        Ok(CommitStep::Grow { roots: roots + 1 })
+    } else {
+        write_next(disk, buffer, journal, group, 0, 0)
     }
 }
 
@@ -157,7 +179,10 @@ pub(crate) fn make_group_call<D: Disk>(
     ensures room { vec_capacity buffer.old ≤ vec_capacity buffer.new }
 {
     match now {
-        CommitStep::Write { roots, from } => write_next(disk, buffer, journal, group, roots, from),
+        CommitStep::Grow { roots } => grow(disk, buffer, journal, group, roots),
+        CommitStep::Write { entry, number } => {
+            write_next(disk, buffer, journal, group, entry, number)
+        }
         CommitStep::Sync => {
             disk.sync()?;
             Ok(CommitStep::Gate)

@@ -1,13 +1,13 @@
 //! What the entries of a group write.
 
 ghost use Rattle.std.specs.Prelude.{◌≡◌, ◌<◌, ◌≤◌, ◌+◌, ◌^◌, Some, None, MatchOption};
-ghost use Rattle.std.specs.Prelude.{length, ℕ};
+ghost use Rattle.std.specs.Prelude.{[], ◌∷◌, length, ℕ};
 ghost use Rattle.std.specs.List.{slice_get};
 ghost use Rattle.cm_commit.specs.declared.journal_end.JournalEnd.{JournalEnd};
 ghost use Rattle.cm_guards.specs.Stages.{calls_left};
 ghost use Rattle.cm_commit.specs.GroupPlans.{writes_of, all_writes};
 ghost use Rattle.cm_commit.specs.GroupPlans.{roots_of_entry, roots_of_entries};
-ghost use Rattle.cm_commit.specs.Steps.{stages_at, HaveOffsets};
+ghost use Rattle.cm_commit.specs.Steps.{stages_at, writes_from, HaveOffsets};
 ghost use Rattle.cm_group.specs.Groups.{entries_in};
 
 use crate::step::CommitStep;
@@ -78,19 +78,39 @@ fn writes_in(carried: &CarriedEntry) -> usize
     }
 }
 
-/// The record of this number among those that entries write, with its place. A group has few
-/// entries, and none of them is searched.
-pub(crate) fn nth_write(entries: &[CarriedEntry], number: usize) -> Option<(Place, &Record)>
-    requires { HaveOffsets (all_writes entries.now) }
-    ensures found { MatchOption result (slice_get (all_writes entries.now) number ≡ None)
-        (λ w. slice_get (all_writes entries.now) number ≡ Some (w.0, w.1.now)) }
+/// A record that an entry writes, with its place, and what comes after it: a record of an entry.
+#[derive(Clone, Copy)]
+pub(crate) struct NextWrite<'a> {
+    pub(crate) place: Place,
+    pub(crate) class: &'a Record,
+    pub(crate) entry: usize,
+    pub(crate) number: usize,
+}
+
+/// The next record that entries write, from a record of one of them on. A group's entries are gone
+/// through once, however many records it has.
+pub(crate) fn next_write(
+    entries: &[CarriedEntry],
+    entry: usize,
+    number: usize,
+) -> Option<NextWrite<'_>>
+    requires offsets { HaveOffsets (all_writes entries.now) }
+    requires few { length (all_writes entries.now) < 2 ^ 32 }
+    ensures found { MatchOption result (writes_from entry number entries.now ≡ [])
+        (λ w. writes_from entry number entries.now
+        ≡ (w.place, w.class.now) ∷ writes_from w.entry w.number entries.now) }
 {
-    let mut left = number;
-    for carried in entries {
-        if let Some(write) = write_of(carried, left) {
-            return Some(write);
+    let mut from = number;
+    for at in entry..entries.len() {
+        if let Some((place, class)) = write_of(&entries[at], from) {
+            return Some(NextWrite {
+                place,
+                class,
+                entry: at,
+                number: from + 1,
+            });
         }
-        left -= writes_in(carried);
+        from = 0;
     }
     None
 }
@@ -107,6 +127,18 @@ fn all_writes(entries: &[CarriedEntry]) -> usize
     count
 }
 
+/// How many records entries write from a record of one of them on.
+fn writes_from(entries: &[CarriedEntry], entry: usize, number: usize) -> usize
+    requires { length (all_writes entries.now) < 2 ^ 32 }
+    ensures value { result ≡ length (writes_from entry number entries.now) }
+    ensures few { result < 2 ^ 32 }
+{
+    if entry >= entries.len() {
+        return 0;
+    }
+    writes_in(&entries[entry]).saturating_sub(number) + all_writes(&entries[entry + 1..])
+}
+
 /// How many device calls of a group with these entries are left at a step, not counting those of a
 /// checkpoint.
 pub(crate) fn group_calls(now: CommitStep, entries: &[CarriedEntry]) -> u64
@@ -117,10 +149,11 @@ pub(crate) fn group_calls(now: CommitStep, entries: &[CarriedEntry]) -> u64
     ensures few { result ≤ 2 ^ 33 + 4 }
 {
     match now {
-        CommitStep::Write { roots, from } => {
+        CommitStep::Grow { roots } => {
             let zeros = roots_needed(entries).saturating_sub(roots);
-            u64::from(zeros) + all_writes(entries).saturating_sub(from) as u64 + 4
+            u64::from(zeros) + all_writes(entries) as u64 + 4
         }
+        CommitStep::Write { entry, number } => writes_from(entries, entry, number) as u64 + 4,
         CommitStep::Sync => 3,
         CommitStep::Gate => 2,
         CommitStep::LastSync => 1,

@@ -35,18 +35,18 @@ pub(crate) fn first_step(journal: &JournalEnd, roots: u32, group: &Group) -> Pla
     if is_due(journal, group) {
         PlanStep::Checkpoint(CheckpointStep::Shut)
     } else {
-        PlanStep::Group(CommitStep::Write { roots, from: 0 })
+        PlanStep::Group(CommitStep::Grow { roots })
     }
 }
 
 /// The step that follows one of a checkpoint.
 fn behind_checkpoint(next: Option<CheckpointStep>, roots: u32) -> PlanStep
     ensures { result ≡ elim next
-        [ Some at ↦ plan.Checkpoint at | None ↦ plan.Group (step.Write roots 0) ] }
+        [ Some at ↦ plan.Checkpoint at | None ↦ plan.Group (step.Grow roots) ] }
 {
     match next {
         Some(at) => PlanStep::Checkpoint(at),
-        None => PlanStep::Group(CommitStep::Write { roots, from: 0 }),
+        None => PlanStep::Group(CommitStep::Grow { roots }),
     }
 }
 
@@ -113,7 +113,7 @@ pub(crate) fn calls_at(now: PlanStep, roots: u32, entries: &[CarriedEntry]) -> u
 {
     match now {
         PlanStep::Checkpoint(at) => {
-            let group = group_calls(CommitStep::Write { roots, from: 0 }, entries);
+            let group = group_calls(CommitStep::Grow { roots }, entries);
             checkpoint_calls(at) + group
         }
         PlanStep::Group(at) => group_calls(at, entries),

@@ -3,9 +3,12 @@
 /// What the next device call of a group is.
 #[derive(Clone, Copy, Debug, PartialEq, Eq)]
 pub(crate) enum CommitStep {
-    /// A write: of a root of zeros while the file has too few roots, then of the next record of the
-    /// entries from this one on, then of the slots.
-    Write { roots: u32, from: usize },
+    /// A write of a root of zeros if the file has too few, and these are how many it has by now;
+    /// otherwise the first one of `Write`.
+    Grow { roots: u32 },
+    /// A write: of the next record, from this one of this entry's on, or of the slots if no record
+    /// is left.
+    Write { entry: usize, number: usize },
     /// The sync before the gate.
     Sync,
     /// The write of the gate's byte.

@@ -1,25 +1,30 @@
-use Rattle.std.proofs.Common.{◌≡◌, ◌+◌, sym, ap, ◌∙◌, arith, length-drop}
+use Rattle.std.proofs.Common.{◌≡◌, ◌+◌, sym, ap, ◌∙◌, arith}
 use Rattle.cm_group.specs.Groups.{Handed}
+use Rattle.cm_guards.specs.Stages.{calls_left}
 use Rattle.cm_commit.specs.declared.step.CommitStep.{CommitStep}
 use Rattle.cm_commit.specs.declared.step.CommitStep.TheVariants as step
-use Rattle.cm_guards.specs.Stages.{calls_left}
-use Rattle.cm_commit.specs.GroupPlans.{all_writes}
 use Rattle.cm_commit.specs.Steps.{stages_at}
-use Rattle.cm_commit.proofs.Counting.{calls_write}
+use Rattle.cm_commit.proofs.Counting.{calls_write, group_counts}
 use Rattle.cm_commit.proofs.entries.group_calls.Goals as goal
 
-pub returns-in-Write-clause-few : goal.returns-in-Write-clause-few
-returns-in-Write-clause-few c =
+pub returns-in-Grow-clause-calls : goal.returns-in-Grow-clause-calls
+returns-in-Grow-clause-calls c = λ j first learnt.
+    let group : Handed = record {
+      first = first;
+      learnt = learnt;
+      entries = c.args.entries.now;
+    } in
+    let counted : c.from.result + c.all_writes.result + 4
+    ≡ calls_left (stages_at j group (step.Grow c.in-Grow.roots)) =
     omega (
       arith,
-      c.requires.roots,
-      c.requires.few,
+      group_counts j.geometry j.half j.end j.number c.in-Grow.roots c.args.entries.now,
       c.from.ensures,
       c.saturating_sub-zeros.ensures,
-      c.saturating_sub.ensures,
       c.roots_needed.ensures,
       c.all_writes.ensures,
-    )
+    ) in
+    counted ∙ ap (λ (s : CommitStep). calls_left (stages_at j group s)) (sym c.in-Grow.is)
 
 pub returns-in-Write-clause-calls : goal.returns-in-Write-clause-calls
 returns-in-Write-clause-calls c = λ j first learnt.
@@ -28,17 +33,11 @@ returns-in-Write-clause-calls c = λ j first learnt.
       learnt = learnt;
       entries = c.args.entries.now;
     } in
-    let writes = all_writes c.args.entries.now in
-    let counted : c.from.result + c.saturating_sub.result + 4
-    ≡ calls_left (stages_at j group (step.Write c.in-Write.roots c.in-Write.from)) =
+    let counted : c.writes_from.result + 4
+    ≡ calls_left (stages_at j group (step.Write c.in-Write.entry c.in-Write.number)) =
     omega (
       arith,
-      calls_write j group c.in-Write.roots c.in-Write.from,
-      length-drop c.in-Write.from writes,
-      c.from.ensures,
-      c.saturating_sub-zeros.ensures,
-      c.saturating_sub.ensures,
-      c.roots_needed.ensures,
-      c.all_writes.ensures,
+      calls_write j group c.in-Write.entry c.in-Write.number,
+      c.writes_from.ensures.value,
     ) in
     counted ∙ ap (λ (s : CommitStep). calls_left (stages_at j group s)) (sym c.in-Write.is)

@@ -27,7 +27,7 @@ returns-in-Checkpoint c = λ j rows first learnt.
     omega (
       arith,
       calls_left-append (checkpoint_left j rows at)
-          (stages_at to group (step.Write c.args.roots 0)),
+          (stages_at to group (step.Grow c.args.roots)),
       c.checkpoint_calls.ensures.calls j rows,
       c.group_calls-group.ensures.calls to first learnt,
     ) in
