@@ -28,8 +28,8 @@ fn cut<D: Disk>(committer: &mut Committer<D>) -> Result<(), AdvanceFault>
     ensures stored { OnOk result (IsDurable (D.view.contents committer.new.disk)
         (D.view.unsynced committer.new.disk)) }
 {
-    committer.advance()?;
-    committer.advance()?;
+    committer.advance()?; // the cut
+    committer.advance()?; // the sync after it
     Ok(())
 }
 
