@@ -459,6 +459,8 @@ status=$?
 check_says "a FIFO" 3 device "$work/fifo"
 run format "$work/folder"
 check_says "format on a folder" 1 exists
+run format "$work/folder/"
+check_says "format on a folder, with a slash" 1 exists
 run format "$work/fifo"
 check_says "format on a FIFO" 1 exists
 ln -s "$work/nothing" "$work/dangling"
@@ -466,6 +468,8 @@ run format "$work/dangling"
 check_says "format on a link that leads nowhere" 1 exists
 run format "$work/missing/cache"
 check_says "format in a missing folder" 3 device "$work/missing/cache"
+run format "$work/missing/"
+check_says "format on a missing folder, with a slash" 3 device "$work/missing/"
 run format "$work/empty/cache"
 check_says "format below a file" 3 device "$work/empty/cache"
 [ ! -e "$work/nothing" ] && [ ! -e "$work/missing" ]

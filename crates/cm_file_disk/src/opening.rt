@@ -112,6 +112,10 @@ fn open_file(
 
 /// Creates a file if nothing has that name, and makes it and its name durable.
 fn create_file(rt: &impl Files<File = File>, path: &str) -> Result<File, CreateError> {
+    // The system says of each path that ends in a slash that it is a folder's, be it there or not.
+    if path.ends_with('/') && fs::metadata(rt, path).is_ok() {
+        return Err(CreateError::Exists);
+    }
     let file = File::create_new(rt, path).map_err(why_not_created)?;
     match store_new(rt, file, path) {
         Ok(file) => Ok(file),
