@@ -26,8 +26,12 @@ use cm_front::Front;
 use cm_record::Record;
 use cm_state::rows_tell_state;
 use std::alloc::{AllocError, Global};
-use std::sync::{Arc, Mutex, Wait};
-use std::thread::Threads;
+use std::sync::{Arc, Mutex, MutexGuard, Wait};
+use std::thread::{self, Threads};
+
+/// How often a look-up tries to take the lock, letting other threads run in between, before it
+/// sleeps until the lock is free.
+const LOOK_TRIES: u32 = 8;
 
 /// A running cache, whose commands another thread stores, its [`Flusher`]. Many threads use it at
 /// once.
@@ -219,7 +223,19 @@ impl<K: Naming> Cache<K> {
             (λ found. IfSome found (λ r. class_name_in (arc_value r) ≡ class.now)) }
     {
         rows_tell_state();
-        self.shared.lock(rt).find(loader, class)
+        self.lock_to_look(rt).find(loader, class)
+    }
+
+    // Takes the lock for a look-up. To sleep and be woken takes far longer than a look-up holds the
+    // lock, so other threads run a few times first.
+    fn lock_to_look<R: Wait>(&self, rt: &R) -> MutexGuard<'_, Shared<K>> {
+        for _ in 0..LOOK_TRIES {
+            if let Some(shared) = self.shared.try_lock() {
+                return shared;
+            }
+            thread::yield_now();
+        }
+        self.shared.lock(rt)
     }
 
     /// From now on each changing call is refused with `Closed`. Waits for the lock.
