@@ -9,6 +9,7 @@ mod input;
 mod laws;
 mod line;
 mod line_buffer;
+mod number;
 mod output;
 
 pub use bound::MOST_STEPS;
@@ -22,4 +23,5 @@ pub use laws::{
 };
 pub use line::{Line, are_words, parse};
 pub use line_buffer::{LINE_LIMIT, LineBuffer};
+pub use number::push_number;
 pub use output::write_line;
