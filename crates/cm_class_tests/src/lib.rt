@@ -8,6 +8,8 @@ mod duplicates;
 #[cfg(test)]
 mod faults;
 #[cfg(test)]
+mod laying;
+#[cfg(test)]
 mod member_samples;
 #[cfg(test)]
 mod names;

@@ -2,7 +2,7 @@
 
 ghost use Rattle.std.specs.Prelude.{◌≡◌, IfOk, IfErr, IfSome, true, None};
 ghost use Rattle.cm_class.specs.declared.class_file.ClassFile.{ClassFile};
-ghost use Rattle.cm_record.specs.Layout.{lay, IsRecordOf};
+ghost use Rattle.cm_record.specs.Layout.{lay, IsRecord, IsRecordOf};
 ghost use Rattle.cm_rules.specs.Answer.{SpellsRightClass};
 ghost use Rattle.cm_rules.specs.Fault.{fault};
 ghost use Rattle.cm_commands.specs.Prepare.{IsUnbuilt, IsUnprepared, refusal_for};
@@ -10,8 +10,9 @@ ghost use Rattle.cm_commands.specs.Prepare.{IsUnbuilt, IsUnprepared, refusal_for
 use crate::bad_class::BadClass;
 use crate::prepared::Prepared;
 use crate::refusal::Refusal;
-use cm_class::{Class, read_shape};
+use cm_class::Class;
 use cm_record::{Record, RecordRefusal, build};
+use cm_record_laying::lay_file;
 use cm_record_rules::judge_words;
 use cm_rules::{ClassFault, read_class};
 use std::alloc::Global;
@@ -40,12 +41,12 @@ fn build_record(alloc: Global, class: &Class) -> Result<Record, Refusal>
     }
 }
 
-/// Whether the class of a record is found to keep the rules by its words alone. `false` says
-/// nothing.
-fn is_judged_right(alloc: Global, class: &Record) -> bool
-    ensures { result ≡ true → (c : ClassFile) → IsRecordOf c class.now → fault c ≡ None }
+/// Whether the class of a record is found to keep the rules by the record's words alone. `false`
+/// says nothing.
+fn is_judged_right(alloc: Global, words: &[u64]) -> bool
+    requires { IsRecord words.now }
+    ensures { result ≡ true → (c : ClassFile) → IsRecordOf c words.now → fault c ≡ None }
 {
-    let words = class.as_slice();
     // Eight bytes for each word, and one for each constant.
     match Vec::with_capacity(alloc, 9 * words.len()) {
         Ok(mut scratch) => judge_words(alloc, &mut scratch, words),
@@ -55,14 +56,13 @@ fn is_judged_right(alloc: Global, class: &Record) -> bool
 
 /// The record of a class's bytes, if its words alone show that the class keeps the rules. `None`
 /// says nothing.
-fn record_judged(alloc: Global, bytes: &[u8]) -> Option<Record>
+fn record_laid(alloc: Global, bytes: &[u8]) -> Option<Record>
     ensures { IfSome result (λ words. (c : ClassFile) × SpellsRightClass bytes.now c
         × (words ≡ lay c)) }
 {
-    let class = read_shape(alloc, bytes).ok()?;
-    let record = build(alloc, &class).ok()?;
-    if is_judged_right(alloc, &record) {
-        Some(record)
+    let words = lay_file(alloc, bytes)?;
+    if is_judged_right(alloc, words.as_slice()) {
+        Some(Record::of_words(words))
     } else {
         None
     }
@@ -87,7 +87,7 @@ fn record_of_bytes(alloc: Global, bytes: &[u8]) -> Result<Record, Refusal>
     ensures refused { IfErr result (IsUnprepared bytes.now) }
 {
     // Nearly every class keeps the rules, which the words of its record show.
-    match record_judged(alloc, bytes) {
+    match record_laid(alloc, bytes) {
         Some(record) => Ok(record),
         None => record_searched(alloc, bytes),
     }

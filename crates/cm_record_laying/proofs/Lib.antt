@@ -1,0 +1,5 @@
+mod Steps
+mod Fronts
+mod ConstantsLaid
+mod Joins
+mod WholeFiles

@@ -1,0 +1,10 @@
+use Rattle.cm_record_laying.proofs.Fronts.{front_4}
+use Rattle.cm_record_laying.proofs.numbers.read_u32.Goals as goal
+
+pub returns : goal.returns
+returns c =
+    let parts = c.in_ok-four.ensures.cases in (
+      front_4 c.args.bytes.now c.in_ok-four.four.now c.in_ok-four.rest.now
+          c.from_be_bytes.result parts.0 parts.1 parts.2 c.type_inv.bytes c.from_be_bytes.ensures,
+      c.from_be_bytes.type_inv,
+    )

@@ -1,0 +1,4 @@
+pub mod Laying
+pub mod Kinds
+pub mod Heads
+pub mod Files
