@@ -22,10 +22,9 @@ sys.path.insert(0, os.path.join(os.path.dirname(os.path.abspath(__file__)), ".."
 import oracle
 import region
 
-TOP, LIMIT, SLOTS = 12, 256, 65_536
+SIZES = oracle.Geometry(12, 256, 65_536)
 CLASSES = 127
-ROOT_WORDS = oracle.UNIT << TOP
-WORDS = ROOT_WORDS // CLASSES
+WORDS = SIZES.root_words // CLASSES
 METHODS = 200
 
 
@@ -63,10 +62,8 @@ def class_file(name, filling):
 
 def record(name):
     """The words of a class of this name, as bytes: as many as each class gets."""
-    words = len(oracle.read_shape(class_file(name, 0))[0].record())
-    found, fault = oracle.read_shape(class_file(name, 8 * (WORDS - words)))
-    assert not fault and not oracle.first_fault(found), fault
-    words = found.record()
+    words = len(oracle.prepare(class_file(name, 0)).words)
+    words = oracle.prepare(class_file(name, 8 * (WORDS - words))).words
     assert len(words) == WORDS
     return struct.pack(f"<{WORDS}Q", *words)
 
@@ -79,13 +76,13 @@ def slots(roots):
         yield region.entry_slots(("loader", root + 1, b"loader%03d" % root))
     for root in range(roots):
         for place in range(CLASSES):
-            yield region.spelled(region.DEFINE, "2xIQIIII", WORDS, root + 1, root, TOP, 0,
+            yield region.spelled(region.DEFINE, "2xIQIIII", WORDS, root + 1, root, SIZES.top, 0,
                                  WORDS * place)
 
 
 def write_file(path, records, roots):
     """Writes the file, and returns its length."""
-    front = region.Region(oracle.Geometry(TOP, LIMIT, SLOTS)).bytes
+    front = region.Region(SIZES).bytes
     half = b"".join(slots(roots))
     front[region.SUPERBLOCK:region.SUPERBLOCK + len(half)] = half
     with open(path, "wb") as file:
@@ -110,7 +107,7 @@ def measured(program, path, wanted):
 
 def main(program, runs=3, folder=None, *sizes):
     records = b"".join(record(b"Class%03d" % place)
-                       for place in range(CLASSES)).ljust(8 * ROOT_WORDS, b"\0")
+                       for place in range(CLASSES)).ljust(8 * SIZES.root_words, b"\0")
     with tempfile.TemporaryDirectory(
             dir=folder or os.path.dirname(os.path.abspath(program))) as folder:
         path = os.path.join(folder, "full")

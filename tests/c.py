@@ -135,10 +135,9 @@ def compare(archive):
 
 
 def record(name, path):
-    found, _ = oracle.read_shape(Path(path).read_bytes())
-    words = found.record()
-    print(f"{name} flags {found.flags:04x} words {len(words)}")
-    print(*(f"{word:016x}" for word in words), sep="\n")
+    made = oracle.prepare(Path(path).read_bytes())
+    print(f"{name} flags {made.flags:04x} words {len(made.words)}")
+    print(*(f"{word:016x}" for word in made.words), sep="\n")
     return 0
 
 

@@ -37,12 +37,13 @@ SCRIPTS = [
 ]
 
 
-def new_file(script):
-    """The bytes of a small file after a script."""
-    cache = oracle.Cache(oracle.Geometry(3, 2, 256))
-    for line in oracle.lines_of(script.encode()):
-        cache.answer(line)
-    return bytearray(region.file_of(cache))
+SMALL = oracle.Geometry(3, 2, 256)
+
+
+def new_file(script, geometry=SMALL):
+    """The bytes of a file after a script."""
+    lines = oracle.lines_of(script.encode())
+    return region.file_of(oracle.answers(lines, geometry)[0]).bytes
 
 
 def wanted(data):
@@ -86,7 +87,7 @@ LONG, LONGEST = b"m" * 49, b"n" * 96
 def whole_file():
     """A file with an entry of each kind. Half 1 counts, in which two loaders and a class are live;
     half 0 counted before it."""
-    one, two = (oracle.read_shape(bytes.fromhex(text))[0].record() for text in (A, B))
+    one, two = (oracle.prepare(bytes.fromhex(text)).words for text in (A, B))
     first, second, third = (0, 0, 0), (0, 0, 128), (0, 1, 256)
     slots = [
         region.head_slot(4, 2, 3, gate=region.OPEN),

@@ -114,11 +114,9 @@ def pieces(call):
 
 def begun(geometry, count=0):
     """A cache after this many commands, and its file. It is empty."""
-    cache, file = runs.new_cache(geometry), region.Region(geometry)
-    for at in range(count):
-        cache.answer(b"unload x" if at % 2 else b"loader x")
-        file.store(cache.number, cache.entries[-1])
-    return cache, file
+    cache, _ = oracle.answers([b"unload x" if at % 2 else b"loader x" for at in range(count)],
+                              geometry)
+    return cache, region.file_of(cache)
 
 
 def due_calls(cache, file, lines):
@@ -128,9 +126,9 @@ def due_calls(cache, file, lines):
         before = cache.number
         reply = cache.answer(line)
         if cache.number > before:
-            for call in file.calls(cache.number, cache.entries[-1]):
+            for call in file.calls(cache, cache.number):
                 calls += pieces(call)
-            file.store(cache.number, cache.entries[-1])
+            file.store(cache, cache.number)
         calls.append(("r", 0, reply + b"\n"))
     return calls
 
@@ -212,11 +210,9 @@ def fates(rng):
 
 def stop_at_each_call(bench, calls):
     rng = random.Random(13)
-    path, states = f"{bench.folder}/stopped", {BEFORE: {}}
-    cache, replies = begun(SMALL, BEFORE)[0], 0
-    for line in SCRIPT:
-        cache.answer(line)
-        states[cache.number] = region.state_of(cache)
+    path, replies = f"{bench.folder}/stopped", 0
+    whole, _ = begun(SMALL, BEFORE)
+    runs.answers(whole, SCRIPT)
     cache, file = begun(SMALL, BEFORE)
     disk = Stopped(file.bytes)
     for at, call in enumerate(calls):
@@ -232,7 +228,8 @@ def stop_at_each_call(bench, calls):
                 file.write(disk.left(of))
             state, number = runs.state_in(path)
             name = f"the machine stops after call {at}, unsynced bytes: {fate}"
-            good = number in (cache.number, cache.number + 1) and state == states[number]
+            good = (number in (cache.number, cache.number + 1) and number <= whole.number
+                    and state == region.state_of(whole.states[number]))
             if bench.checks.check(name, good,
                                   f"number {number}, {cache.number} acknowledged: {state!s:.100}"):
                 ran = runs.run(bench.program, ["apply", path], runs.FINDS)
@@ -291,10 +288,8 @@ LEFT_ROOT = [b"loader app", runs.define(b"app", b"A", 0), b"loader ext",
 
 
 def trim_with_faults(bench):
-    cache, file = begun(SMALL)
-    for line in LEFT_ROOT:
-        cache.answer(line)
-        file.store(cache.number, cache.entries[-1])
+    cache, _ = oracle.answers(LEFT_ROOT, SMALL)
+    file = region.file_of(cache)
     end = len(file.bytes) - 8192
     due = [("s", 0, b""), ("c", end, b""), ("s", 0, b""), ("r", 0, b"roots 1\n")]
     path = bench.new_file(file)

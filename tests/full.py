@@ -64,7 +64,7 @@ def under_limits(checks, program, folder):
     # of the first, and so on.
     for geometry, limit in [(SMALL, 36), (SMALL, 37), (SMALL, 44), (SMALL, 45), (SMALL, 51),
                             (oracle.Geometry(), 600)]:
-        path, cache = f"{folder}/limited", runs.new_cache(geometry)
+        path, cache = f"{folder}/limited", oracle.Cache(geometry)
         new_file(path, geometry)
         name = f"files of {limit} KiB"
         rest = run_out(checks, name, program, path, cache, TOO_LARGE, limit)
@@ -94,7 +94,7 @@ def on_full_disks(checks, program, folder):
     for geometry, size in [(SMALL, 36), (SMALL, 40), (SMALL, 44), (SMALL, 48),
                            (oracle.Geometry(), 600)]:
         with mounted(f"{folder}/full", size) as small:
-            path, cache = f"{small}/cache", runs.new_cache(geometry)
+            path, cache = f"{small}/cache", oracle.Cache(geometry)
             new_file(path, geometry)
             name = f"a disk of {size} KiB"
             rest = run_out(checks, name, program, path, cache, NO_SPACE)

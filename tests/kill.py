@@ -164,7 +164,7 @@ def main(program, kills, seed, further):
                 geometry = GEOMETRIES[files % len(GEOMETRIES)]
                 # Only a file without long names can be turned into one of version 1.
                 loaders = runs.LONG_LOADERS if files % 2 else runs.LOADERS
-                cache = runs.new_cache(geometry)
+                cache = oracle.Cache(geometry)
                 os.remove(path)
                 if not checks.check(
                         "format",

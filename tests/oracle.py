@@ -1,21 +1,27 @@
 #!/usr/bin/env python3
-"""Replies to a script for `cmcache apply --memory`, computed independently of the program.
+"""The model of the cache: which classes and commands are accepted, why others are refused, and
+where records lie. As a program, the replies to a script for `cmcache apply --memory`.
 
     tests/oracle.py < SCRIPT > REPLIES
 
 It is written from the project's description of lines, faults, rules, records and chunks and from
 JVMS SE 8, chapter 4, and shares no code with the program. It has no device, and as much memory as
 it needs: no reply is `unsure`, and none is a refusal 9 or 10. region.py says what a file holds
-after a script.
+after a script, and simulate.py what becomes of groups, device calls and crashes.
 """
+import functools
 import re
 import sys
+from typing import NamedTuple
 
-LINE_LIMIT = 16_777_216
-RECORD_LIMIT = 524_288
+LINE_LIMIT = 16_777_216  # bytes
+RECORD_LIMIT = 524_288  # words
 UNIT = 128  # words of the least chunk
 NAME_LIMIT = 96  # bytes of a loader's name
 NAME_ROOM = 48  # and how many of them a slot of the journal has room for
+UNLOAD_LIMIT = 7  # loaders that one command unloads
+GROUP_SLOTS = 64  # slots of the commands that are stored together
+LAST_NUMBER = 2 ** 63
 
 
 # ---- the shape of a class file
@@ -643,18 +649,113 @@ def first_fault(c):
     return None
 
 
-# ---- scripts
+# ---- refusals
+
+REFUSALS = {
+    1: "name", 2: "loader exists", 3: "no loader", 4: "class exists", 5: "record too long",
+    6: "region full", 7: "journal full", 8: "no move", 15: "line", 16: "list",
+}
+
 
 class Refused(Exception):
-    pass
+    """Why a line is refused: the number K of docs/PROGRAM.md, and its text."""
+
+    def __init__(self, cause, text=None):
+        super().__init__(f"{cause} {text or REFUSALS[cause]}")
+        self.cause = cause
 
 
-BAD_LINE = "15 line"
+# ---- classes that can be stored
+
+class Prepared(NamedTuple):
+    """A class that keeps all rules, and the words of its record."""
+    name: bytes
+    words: list
+    flags: int
+    super_name: bytes
 
 
-def escaped(name):
-    return b"".join(bytes([b]) if 0x21 <= b <= 0x7e and b != 0x25 else b"%%%02X" % b for b in name)
+@functools.lru_cache(maxsize=64)
+def prepare(data):
+    """The class with these bytes. Scripts define few classes, over and over."""
+    found, fault = read_shape(data)
+    fault = fault or first_fault(found)
+    if fault:
+        raise Refused(14, fault)
+    words = found.record()
+    if len(words) > RECORD_LIMIT:
+        raise Refused(5)
+    return Prepared(found.class_name(found.this_class), words, found.flags,
+                    found.class_name(found.super_class) if found.super_class else None)
 
+
+# ---- places
+
+class Chunk(NamedTuple):
+    """The words of a root from `at` on: 128 * 2^order of them."""
+    root: int
+    order: int
+    at: int
+
+    @property
+    def words(self):
+        return UNIT << self.order
+
+    def meets(self, other):
+        return (self.root == other.root and self.at < other.at + other.words
+                and other.at < self.at + self.words)
+
+    def is_better(self, other):
+        """Whether records may move here from the other: it is smaller, or lies before."""
+        return self.order < other.order or (self.root, self.at) < (other.root, other.at)
+
+
+class Geometry:
+    """A file's sizes: the order of a root, how many roots it may have, and the slots of a half."""
+
+    def __init__(self, top=8, roots=64, slots=4096):
+        self.top = top
+        self.roots = roots
+        self.slots = slots
+
+    def is_within_limits(self):
+        return (3 <= self.top <= 12 and 1 <= self.roots <= 256 and 256 <= self.slots <= 65_536)
+
+    @property
+    def root_words(self):
+        return UNIT << self.top
+
+    @property
+    def row_slots(self):
+        """How many slots live loaders and classes may take: half of those of a half."""
+        return self.slots // 2
+
+    def has(self, chunk):
+        """Whether the region can have this chunk."""
+        return (chunk.order <= self.top and chunk.root < self.roots and chunk.at % chunk.words == 0
+                and chunk.at + chunk.words <= self.root_words)
+
+
+def order_for(words):
+    """The least order whose chunks hold this many words."""
+    return next(order for order in range(64) if UNIT << order >= words)
+
+
+def chain_of(places):
+    """A loader's chunks in their order, each with its used words, from the chunk and the words of
+    each of its records."""
+    used = {}
+    for chunk, words in places:
+        used[chunk] = used.get(chunk, 0) + words
+    return list(used.items())
+
+
+def roots_used(chunks):
+    """One more than the greatest root of these chunks."""
+    return max((chunk.root + 1 for chunk in chunks), default=0)
+
+
+# ---- loaders
 
 def is_loader_name(name):
     return 1 <= len(name) <= NAME_LIMIT and all(0x21 <= byte <= 0x7e for byte in name)
@@ -665,267 +766,259 @@ def slots_of_name(name):
     return 2 if len(name) > NAME_ROOM else 1
 
 
-ESCAPES = re.compile(rb"(?:[\x21-\x24\x26-\x7e]|%[0-9A-Fa-f]{2})+")
+class Live(NamedTuple):
+    """A live class: its command's number, and where its record lies."""
+    number: int
+    made: Prepared
+    chunk: Chunk
+    offset: int
 
 
-def unescaped(word):
-    if not ESCAPES.fullmatch(word):
-        raise Refused(BAD_LINE)
-    name = re.sub(rb"%(..)", lambda match: bytes([int(match.group(1), 16)]), word)
-    # An escape is accepted only if the byte couldn't stand for itself.
-    if len(escaped(name)) != len(word):
-        raise Refused(BAD_LINE)
-    return name
+class Loader(NamedTuple):
+    """A live loader: its command's number, and its classes in the order of their commands."""
+    number: int
+    classes: dict
+
+    def chain(self):
+        return chain_of((live.chunk, len(live.made.words)) for live in self.classes.values())
+
+    def chunks(self):
+        return {live.chunk for live in self.classes.values()}
 
 
-def class_bytes(word):
-    if len(word) % 2 or not re.fullmatch(rb"[0-9A-Fa-f]+", word):
-        raise Refused(BAD_LINE)
-    return bytes.fromhex(word.decode("ascii"))
+def chunks_of(loaders):
+    """The chunks on which the classes of these loaders lie."""
+    return {chunk for loader in loaders.values() for chunk in loader.chunks()}
 
 
-class Pool:
-    """The free units of each present root, as the bits of a number."""
-
-    def __init__(self, geometry):
-        self.units = 1 << geometry.top
-        self.limit = geometry.roots
-        self.free = []
-
-    def add_root(self):
-        if len(self.free) == self.limit:
-            return False
-        self.free.append((1 << self.units) - 1)
-        return True
-
-    def first_free(self, order):
-        """The first free block of an order, by root and then place; None if there is none."""
-        size = 1 << order
-        block = (1 << size) - 1
-        for root, free in enumerate(self.free):
-            for at in range(0, self.units, size):
-                if free >> at & block == block:
-                    return root, order, at * UNIT
-        return None
-
-    def alloc(self, order):
-        chunk = self.first_free(order)
-        if chunk:
-            self.take(chunk)
-        return chunk
-
-    def take(self, chunk):
-        root, order, at = chunk
-        while len(self.free) <= root:
-            self.add_root()
-        self.free[root] &= ~(((1 << (1 << order)) - 1) << at // UNIT)
-
-    def give(self, chunk):
-        root, order, at = chunk
-        self.free[root] |= ((1 << (1 << order)) - 1) << at // UNIT
+def live_slots(loaders):
+    """How many slots of the journal these loaders and their classes take."""
+    return sum(slots_of_name(name) + len(loader.classes) for name, loader in loaders.items())
 
 
-class Arena:
-    """A loader's chunks, each with its used words."""
-
-    def __init__(self):
-        self.chain = []
-
-    def place(self, words, pool, top):
-        """The chunk and the offset for this many words."""
-        need = next(order for order in range(64) if UNIT << order >= words)
-        if need > top:
-            raise Refused("5 record too long")
-        if self.chain:
-            chunk, used = self.chain[-1]
-            if used + words <= UNIT << chunk[1]:
-                self.chain[-1][1] += words
-                return chunk, used
-        wanted = max(need, min(len(self.chain), 4, top))
-        chunk = pool.alloc(wanted) or pool.alloc(need)
-        if not chunk:
-            if not pool.add_root():
-                raise Refused("6 region full")
-            chunk = pool.alloc(wanted)
-        self.chain.append([chunk, words])
-        return chunk, 0
-
-
-    def tighten(self, pool):
-        """The last chunk, whose words move, and the one that they move to: the first free one of
-        the least order that holds them, if it is smaller or lies before."""
-        if not self.chain:
-            raise Refused("8 no move")
-        old, used = self.chain[-1]
-        new = pool.first_free(next(order for order in range(64) if UNIT << order >= used))
-        if not new or not (new[1] < old[1] or (new[0], new[2]) < (old[0], old[2])):
-            raise Refused("8 no move")
-        pool.take(new)
-        self.chain[-1][0] = new
-        return old, new
-
-
-class Geometry:
-    def __init__(self, top=8, roots=64, slots=4096):
-        self.top = top
-        self.roots = roots
-        self.slots = slots
-
-
-class Loader:
-    def __init__(self, number):
-        self.number = number
-        self.arena = Arena()
-        self.classes = {}
-
-
-class Live:
-    """A live class: what `find` replies for it, its record and where this lies."""
-
-    def __init__(self, told, words, chunk, offset):
-        self.told = told
-        self.words = words
-        self.chunk = chunk
-        self.offset = offset
-
+# ---- the cache
 
 class Cache:
-    """A cache whose commands are stored one by one. Each is kept with its entry in the journal."""
+    """What is accepted. A command that isn't raises its refusal, and changes nothing; one that is
+    returns its number.
+
+    Of each command its entry in the journal is kept, and the loaders after it: states[N] are those
+    after number N. A chunk that a command left waits until that command is known to be stored."""
 
     def __init__(self, geometry=None):
         self.geometry = geometry or Geometry()
-        self.loaders = {}
-        self.pool = Pool(self.geometry)
         self.entries = []
-        self.number = 0
+        self.states = [{}]
+        self.roots = 0  # those that are present
+        self.waiting = []
 
-    def reopened(self):
-        """Opened again: the roots after the last one in use are no longer present."""
-        self.pool = Pool(self.geometry)
-        for loader in self.loaders.values():
-            for chunk, _ in loader.arena.chain:
-                self.pool.take(chunk)
+    @property
+    def number(self):
+        return len(self.entries)
+
+    @property
+    def loaders(self):
+        return self.states[-1]
+
+    def copy(self):
+        """The same cache once more, to try something."""
+        other = Cache(self.geometry)
+        other.entries, other.states = [*self.entries], [*self.states]
+        other.roots, other.waiting = self.roots, [*self.waiting]
+        return other
+
+    def reopened(self, number=None):
+        """Opened again from a file that holds the commands up to this number, or all of them: no
+        chunk waits, and the roots after the last one in use are no longer present."""
+        if number is not None:
+            del self.entries[number:]
+            del self.states[number + 1:]
+        self.roots = roots_used(chunks_of(self.loaders))
+        self.waiting = []
         return self
+
+    def learn(self, number):
+        """The commands up to this number are stored."""
+        self.waiting = [wait for wait in self.waiting if wait[0] > number]
+
+    # -- the rules, in the order of docs/PROGRAM.md
 
     def check_name(self, name):
         if not is_loader_name(name):
-            raise Refused("1 name")
-
-    def check_room(self, slots):
-        """Live loaders and classes take at most half the slots of a half of the journal."""
-        if self.slots() + slots > self.geometry.slots // 2:
-            raise Refused("7 journal full")
-
-    def slots(self):
-        """How many slots the live loaders and classes take."""
-        return (sum(map(slots_of_name, self.loaders))
-                + sum(len(loader.classes) for loader in self.loaders.values()))
+            raise Refused(1)
 
     def named(self, name):
         self.check_name(name)
         if name not in self.loaders:
-            raise Refused("3 no loader")
+            raise Refused(3)
         return self.loaders[name]
 
-    def done(self, *entry):
-        self.number += 1
+    def check_room(self, slots):
+        if live_slots(self.loaders) + slots > self.geometry.row_slots:
+            raise Refused(7)
+
+    def first_free(self, order):
+        """The first free block of an order, by root and then place; None if there is none."""
+        taken = [0] * self.roots  # of each root a bit for each unit
+        for chunk in [*chunks_of(self.loaders), *(chunk for _, chunk in self.waiting)]:
+            taken[chunk.root] |= ((1 << (1 << chunk.order)) - 1) << chunk.at // UNIT
+        block = (1 << (1 << order)) - 1
+        for root, units in enumerate(taken):
+            for at in range(0, self.geometry.root_words, UNIT << order):
+                if not units >> at // UNIT & block:
+                    return Chunk(root, order, at)
+        return None
+
+    def place(self, loader, words):
+        """The chunk and the offset for a record of this many words. The chunk may be the first of a
+        root that isn't present yet."""
+        chain = loader.chain()
+        if chain:
+            chunk, used = chain[-1]
+            if used + words <= chunk.words:
+                return chunk, used
+        need = order_for(words)
+        wanted = max(need, min(len(chain), 4, self.geometry.top))
+        chunk = self.first_free(wanted) or self.first_free(need)
+        if not chunk and self.roots == self.geometry.roots:
+            raise Refused(6)
+        return chunk or Chunk(self.roots, wanted, 0), 0
+
+    def better_place(self, loader):
+        """The loader's last chunk, and the one to which its records may move: the first free one of
+        the least order that holds them."""
+        chain = loader.chain()
+        if not chain:
+            raise Refused(8)
+        old, used = chain[-1]
+        new = self.first_free(order_for(used))
+        if not new or not new.is_better(old):
+            raise Refused(8)
+        return old, new
+
+    # -- the commands
+
+    def accept(self, entry, changed, left=()):
+        """A command with this entry gives these names their loaders, or none, and leaves chunks."""
+        after = {**self.loaders, **changed}
         self.entries.append(entry)
+        self.states.append({name: loader for name, loader in after.items() if loader})
+        self.roots = max(self.roots, roots_used(chunks_of(self.loaders)))
+        self.waiting += [(self.number, chunk) for chunk in left]
         return self.number
 
     def loader(self, name):
         self.check_name(name)
         if name in self.loaders:
-            raise Refused("2 loader exists")
+            raise Refused(2)
         self.check_room(slots_of_name(name))
-        number = self.done("loader", self.number + 1, name)
-        self.loaders[name] = Loader(number)
-        return b"ok %d" % number
-
-    def leave(self, name):
-        """The loader is removed, and its chunks are free once the next line is run."""
-        gone = self.loaders.pop(name)
-        for chunk, _ in gone.arena.chain:
-            self.pool.give(chunk)
-        return gone.number
+        number = self.number + 1
+        return self.accept(("loader", number, name), {name: Loader(number, {})})
 
     def unload(self, name):
-        self.named(name)
-        return b"ok %d" % self.done("unload", self.leave(name))
+        gone = self.named(name)
+        return self.accept(("unload", gone.number), {name: None}, gone.chunks())
 
     def unload_all(self, names):
-        if len(names) > 7 or len(set(names)) < len(names):
-            raise Refused("16 list")
+        if len(names) > UNLOAD_LIMIT or len(set(names)) < len(names):
+            raise Refused(16)
         for name in names:
             self.check_name(name)
-        for name in names:
-            self.named(name)
-        return b"ok %d" % self.done("unloadall", [self.leave(name) for name in names])
+        gone = {name: self.named(name) for name in names}
+        return self.accept(("unloadall", [loader.number for loader in gone.values()]),
+                           dict.fromkeys(names), chunks_of(gone))
 
     def tighten(self, name):
-        """The journal says from where and to where, and the move has each record that lay there,
-        with its offset."""
+        """The entry has both chunks, and each record that moves, with its offset."""
         loader = self.named(name)
-        old, new = loader.arena.tighten(self.pool)
-        moved = [live for live in loader.classes.values() if live.chunk == old]
-        for live in moved:
-            live.chunk = new
-        # What is left waits for this command's number, which is stored before the next line.
-        self.pool.give(old)
-        records = [(live.offset, live.words) for live in moved]
-        return b"ok %d" % self.done("move", loader.number, old, new, records)
+        old, new = self.better_place(loader)
+        classes = {class_name: live._replace(chunk=new) if live.chunk == old else live
+                   for class_name, live in loader.classes.items()}
+        records = [(live.offset, live.made.words) for live in classes.values() if live.chunk == new]
+        return self.accept(("move", loader.number, old, new, records),
+                           {name: Loader(loader.number, classes)}, [old])
 
-    def define(self, name, data):
-        found, fault = read_shape(data)
-        fault = fault or first_fault(found)
-        if fault:
-            raise Refused(f"14 {fault}")
-        words = found.record()
-        if len(words) > RECORD_LIMIT:
-            raise Refused("5 record too long")
+    def define(self, name, made):
         loader = self.named(name)
-        class_name = found.class_name(found.this_class)
-        if class_name in loader.classes:
-            raise Refused("4 class exists")
-        if len(words) > UNIT << self.geometry.top:
-            raise Refused("5 record too long")
+        if made.name in loader.classes:
+            raise Refused(4)
+        if len(made.words) > self.geometry.root_words:
+            raise Refused(5)
         self.check_room(1)
-        chunk, offset = loader.arena.place(len(words), self.pool, self.geometry.top)
-        super_name = escaped(found.class_name(found.super_class)) if found.super_class else b"-"
-        told = b"flags %04x super %s words %d" % (found.flags, super_name, len(words))
-        loader.classes[class_name] = Live(told, words, chunk, offset)
-        return b"ok %d %s" % (self.done("define", loader.number, chunk, offset, words),
-                              escaped(class_name))
+        chunk, offset = self.place(loader, len(made.words))
+        classes = {**loader.classes, made.name: Live(self.number + 1, made, chunk, offset)}
+        return self.accept(("define", loader.number, chunk, offset, made.words),
+                           {name: Loader(loader.number, classes)})
 
     def find(self, name, class_name):
+        """The class of that name in the loader, or None."""
         loader = self.loaders.get(name)
-        if not loader or class_name not in loader.classes:
-            return b"none"
-        return b"class %s %s" % (escaped(class_name), loader.classes[class_name].told)
+        live = loader.classes.get(class_name) if loader else None
+        return live and live.made
+
+    # -- scripts
 
     def reply(self, line):
-        words = line.split(b" ")
-        if len(line) > LINE_LIMIT or b"" in words:
-            raise Refused(BAD_LINE)
-        if words[0] == b"loader" and len(words) == 2:
-            return self.loader(words[1])
-        if words[0] == b"unload" and len(words) == 2:
-            return self.unload(words[1])
-        if words[0] == b"unloadall" and len(words) >= 2:
-            return self.unload_all(words[1:])
-        if words[0] == b"tighten" and len(words) == 2:
-            return self.tighten(words[1])
-        if words[0] == b"define" and len(words) == 3:
-            return self.define(words[1], class_bytes(words[2]))
-        if words[0] == b"find" and len(words) == 3:
-            return self.find(words[1], unescaped(words[2]))
-        raise Refused(BAD_LINE)
+        """The reply to a line that isn't refused."""
+        verb, *words = line.split(b" ")
+        if len(line) > LINE_LIMIT or b"" in (verb, *words):
+            raise Refused(15)
+        if verb == b"loader" and len(words) == 1:
+            return b"ok %d" % self.loader(*words)
+        if verb == b"unload" and len(words) == 1:
+            return b"ok %d" % self.unload(*words)
+        if verb == b"unloadall" and words:
+            return b"ok %d" % self.unload_all(words)
+        if verb == b"tighten" and len(words) == 1:
+            return b"ok %d" % self.tighten(*words)
+        if verb == b"define" and len(words) == 2:
+            made = prepare(class_bytes(words[1]))
+            return b"ok %d %s" % (self.define(words[0], made), escaped(made.name))
+        if verb == b"find" and len(words) == 2:
+            made = self.find(words[0], unescaped(words[1]))
+            return told(made) if made else b"none"
+        raise Refused(15)
 
     def answer(self, line):
-        """The reply to a line, refusals too."""
+        """The reply to a line, refusals too. It is stored before the next line is run."""
         try:
-            return self.reply(line)
+            reply = self.reply(line)
         except Refused as refusal:
             return b"refused %s" % str(refusal).encode("ascii")
+        self.learn(self.number)
+        return reply
+
+
+# ---- the text of scripts
+
+def escaped(name):
+    return b"".join(bytes([b]) if 0x21 <= b <= 0x7e and b != 0x25 else b"%%%02X" % b for b in name)
+
+
+ESCAPES = re.compile(rb"(?:[\x21-\x24\x26-\x7e]|%[0-9A-Fa-f]{2})+")
+
+
+def unescaped(word):
+    if not ESCAPES.fullmatch(word):
+        raise Refused(15)
+    name = re.sub(rb"%(..)", lambda match: bytes([int(match.group(1), 16)]), word)
+    # An escape is accepted only if the byte couldn't stand for itself.
+    if len(escaped(name)) != len(word):
+        raise Refused(15)
+    return name
+
+
+def class_bytes(word):
+    if len(word) % 2 or not re.fullmatch(rb"[0-9A-Fa-f]+", word):
+        raise Refused(15)
+    return bytes.fromhex(word.decode("ascii"))
+
+
+def told(made):
+    """What `find` replies of a class."""
+    super_name = b"-" if made.super_name is None else escaped(made.super_name)
+    return b"class %s flags %04x super %s words %d" % (escaped(made.name), made.flags, super_name,
+                                                       len(made.words))
 
 
 def lines_of(script):
@@ -933,16 +1026,22 @@ def lines_of(script):
     return lines[:-1] if lines[-1] == b"" else lines
 
 
+def answers(lines, geometry=None):
+    """A new cache after these lines, and their replies."""
+    cache = Cache(geometry)
+    return cache, [cache.answer(line) for line in lines]
+
+
+def status_of(replies):
+    """The status with which a script ends that got these replies."""
+    return int(any(reply.startswith(b"refused") for reply in replies))
+
+
 def main():
-    cache = Cache()
-    status = 0
-    for line in lines_of(sys.stdin.buffer.read()):
-        reply = cache.answer(line)
-        if reply.startswith(b"refused"):
-            status = 1
-        sys.stdout.buffer.write(reply + b"\n")
-    sys.exit(status)
+    _, replies = answers(lines_of(sys.stdin.buffer.read()))
+    sys.stdout.buffer.write(b"".join(reply + b"\n" for reply in replies))
+    return status_of(replies)
 
 
 if __name__ == "__main__":
-    main()
+    sys.exit(main())

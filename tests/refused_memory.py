@@ -18,7 +18,6 @@ commands, including all that it reports as stored.
 REFUSALS is the expected number of runs with a refusal, or `any` if it depends on the C library; the
 first without one ends the sweep.
 """
-import copy
 import os
 import struct
 import sys
@@ -37,17 +36,16 @@ def is_true(lines, replies, status, cache, has_file):
     for at, reply in enumerate(replies):
         if at >= len(lines):
             return False
-        before = copy.deepcopy(cache)
-        due = cache.answer(lines[at])
+        tried = cache.copy()
+        due = tried.answer(lines[at])
         if reply == due:
-            worst = max(worst, due.startswith(b"refused"))
-            continue
-        number, cache.__dict__ = cache.number, before.__dict__
-        if number == before.number:
+            cache.answer(lines[at])
+            worst = max(worst, oracle.status_of([due]))
+        elif tried.number == cache.number:
             return False
-        if reply == b"refused 9 memory":
+        elif reply == b"refused 9 memory":
             worst = 1
-        elif reply == b"unsure %d" % number and not has_file:
+        elif reply == b"unsure %d" % tried.number and not has_file:
             return at == len(replies) - 1 and status == 3
         else:
             return False
@@ -57,13 +55,10 @@ def is_true(lines, replies, status, cache, has_file):
 def held_cache():
     """A cache with classes in two loaders, and one that was unloaded. What it left lies before the
     chunk of another, whose class moves there."""
-    cache = oracle.Cache()
-    for line in [b"loader web", b"loader app", b"loader old"]:
-        cache.answer(line)
-    for loader, name in (b"old", b"A"), (b"web", b"B"), (b"web", b"A"), (b"app", b"A"):
-        cache.answer(runs.define(loader, name, 8))
-    cache.answer(b"unload old")
-    cache.answer(b"tighten app")
+    classes = (b"old", b"A"), (b"web", b"B"), (b"web", b"A"), (b"app", b"A")
+    cache, _ = oracle.answers([b"loader web", b"loader app", b"loader old",
+                               *(runs.define(loader, name, 8) for loader, name in classes),
+                               b"unload old", b"tighten app"])
     return cache
 
 
@@ -75,11 +70,8 @@ def stream_of_threads():
 
 def states_of_threads():
     """What a file holds after none, one and both commands of `threads`."""
-    cache, states = oracle.Cache(), [{}]
-    for line in [b"loader t0", runs.define(b"t0", b"A", 0)]:
-        cache.answer(line)
-        states.append(region.state_of(cache))
-    return states
+    cache, _ = oracle.answers([b"loader t0", runs.define(b"t0", b"A", 0)])
+    return [region.state_of(loaders) for loaders in cache.states]
 
 
 class Sweep:
@@ -96,8 +88,7 @@ class Sweep:
         # Whether the file is only read.
         self.makes = words[0] in ("format", "threads")
         self.looks = words[0] in ("check", "list") or not self.makes and not lines
-        self.begins = (region.file_of(held_cache()) if self.looks
-                       else bytes(region.Region(oracle.Geometry()).bytes))
+        self.begins = bytes(region.file_of(held_cache() if self.looks else oracle.Cache()).bytes)
 
     def run(self, refuse):
         """The result of the run with that allocation refused, and whether there was one."""

@@ -22,7 +22,6 @@ MAGIC = b"CMCACHE1"
 OPEN = 0xA5
 SUPERBLOCK = 4096
 SLOT = 64
-NUMBERS = 2 ** 63
 HEAD, GROUP, LOADER, DEFINE, UNLOAD, MOVE = 0x01, 0x02, 0x11, 0x12, 0x13, 0x14
 UNLOAD_ALL, REST = 0x15, 0x16
 # The version of entries that is written; files of version 1 are read, and upgraded.
@@ -89,12 +88,56 @@ def slots_of(entry):
 def records_of(entry):
     """What an entry writes: each record with its chunk and its offset there."""
     if entry[0] == "define":
-        _, _, chunk, offset, words = entry
-        return [(chunk, offset, words)]
+        return [entry[2:]]
     if entry[0] == "move":
         _, _, _, new, records = entry
         return [(new, offset, words) for offset, words in records]
     return []
+
+
+def root_at(geometry, root):
+    """The place of a root in the file."""
+    return SUPERBLOCK + 2 * SLOT * geometry.slots + 8 * geometry.root_words * root
+
+
+def roots_in(geometry, length):
+    """How many whole roots a file of this length has."""
+    return (length - root_at(geometry, 0)) // (8 * geometry.root_words)
+
+
+# The device calls of docs/CRASH.md by what they write, in their order: those of a checkpoint, which
+# come before those of the group that has no room, and those of a trim.
+CHECKPOINT = ["other half's gate", "sync", "rows", "sync", "new half's gate", "sync"]
+TRIM = ["cut", "sync"]
+
+
+def checkpoint_calls(is_other_open):
+    """If the other half is shut, a sync takes the place of the first."""
+    return [CHECKPOINT[0] if is_other_open else "sync", *CHECKPOINT[1:]]
+
+
+def group_calls(roots, records):
+    """Those of a group that adds roots to the file and writes records."""
+    return ["root"] * roots + ["record"] * records + ["group", "sync", "gate", "sync"]
+
+
+def has_room(geometry, end, slots):
+    """Whether a group of commands that take this many slots has room in a half that ends there."""
+    return end + 1 + slots <= geometry.slots
+
+
+def end_of_rows(loaders):
+    """The first slot after the rows of these loaders, once they are written into a half."""
+    return 1 + oracle.live_slots(loaders)
+
+
+def rows_of(loaders):
+    """The entries of live loaders and classes, in the order of their numbers."""
+    rows = {loader.number: ("loader", loader.number, name) for name, loader in loaders.items()}
+    for loader in loaders.values():
+        for live in loader.classes.values():
+            rows[live.number] = ("define", loader.number, live.chunk, live.offset, live.made.words)
+    return [rows[number] for number in sorted(rows)]
 
 
 class Region:
@@ -103,88 +146,73 @@ class Region:
     def __init__(self, geometry):
         self.geometry = geometry
         # The half that counts, its epoch and the slot where it ends; whether the other is open.
-        self.half, self.epoch, self.slot = 0, 1, 1
+        self.half, self.epoch, self.end = 0, 1, 1
         self.is_other_open = False
-        # The entries of live loaders and classes, in order.
-        self.rows = []
         numbers = struct.pack("<IIII", 1, geometry.top, geometry.roots, geometry.slots)
         superblock = (MAGIC + numbers).ljust(SUPERBLOCK - 1, b"\0") + bytes([OPEN])
         halves = head_slot(0, 1, 0, gate=OPEN).ljust(2 * SLOT * geometry.slots, b"\0")
         self.bytes = bytearray(superblock + halves)
 
-    def is_due(self, entry):
-        """Whether a group of one command has no room left in the half that counts."""
-        return self.slot + 1 + slots_of(entry) > self.geometry.slots
-
-    def behind_rows(self):
-        """The first slot after the live rows, once they are written into a half."""
-        return 1 + sum(map(slots_of, self.rows))
-
     def half_at(self, half):
         return SUPERBLOCK + SLOT * self.geometry.slots * half
 
-    def checkpoint(self, number):
-        """The device calls that write the live rows into the other half, after this last number."""
+    def checkpoint_writes(self, loaders, base):
+        """What a checkpoint writes: the rows of these loaders, after this last number."""
         half = self.half_at(1 - self.half)
-        yield (half, b"\0") if self.is_other_open else None
-        yield None
-        head = head_slot(self.behind_rows() - 1, self.epoch + 1, number)
-        slots = [head, *map(entry_slots, self.rows)]
-        yield half + 1, b"".join(slots)[1:] + bytes(SLOT)
-        yield None
-        yield half, bytes([OPEN])
-        yield None
+        head = head_slot(oracle.live_slots(loaders), self.epoch + 1, base)
+        slots = b"".join([head, *map(entry_slots, rows_of(loaders))])
+        return {"other half's gate": [(half, b"\0")], "rows": [(half + 1, slots[1:] + bytes(SLOT))],
+                "new half's gate": [(half, bytes([OPEN]))]}
 
-    def calls(self, number, entry):
-        """The device calls that store a command: each a place and the bytes to write there, or None
-        for a sync."""
-        half, slot = self.half, self.slot
-        if self.is_due(entry):
-            yield from self.checkpoint(number - 1)
-            half, slot = 1 - self.half, self.behind_rows()
-        size = oracle.UNIT * 8 << self.geometry.top
-        roots = SUPERBLOCK + 2 * SLOT * self.geometry.slots
-        records = records_of(entry)
-        for (root, _, _), _, _ in records[:1]:
-            for missing in range((len(self.bytes) - roots) // size, root + 1):
-                yield roots + missing * size, bytes(size)
-        for (root, _, at), offset, words in records:
-            yield roots + root * size + 8 * (at + offset), struct.pack(f"<{len(words)}Q", *words)
-        group = self.half_at(half) + SLOT * slot
+    def root_writes(self, records):
+        used = oracle.roots_used(chunk for chunk, _, _ in records)
+        return [(root_at(self.geometry, root), bytes(8 * self.geometry.root_words))
+                for root in range(roots_in(self.geometry, len(self.bytes)), used)]
+
+    def record_write(self, chunk, offset, words):
+        place = root_at(self.geometry, chunk.root) + 8 * (chunk.at + offset)
+        return place, struct.pack(f"<{len(words)}Q", *words)
+
+    def group_writes(self, number, entry, half, slot):
+        at = self.half_at(half) + SLOT * slot
         slots = group_slot(slots_of(entry), number) + entry_slots(entry) + bytes(SLOT)
-        room = self.geometry.slots - slot
-        yield group + 1, slots[1:SLOT * room]
-        yield None
-        yield group, bytes([OPEN])
-        yield None
+        room = SLOT * (self.geometry.slots - slot)
+        return {"group": [(at + 1, slots[1:room])], "gate": [(at, bytes([OPEN]))]}
 
-    def store(self, number, entry):
-        for call in self.calls(number, entry):
+    def calls(self, cache, number):
+        """The device calls that store this command of a cache: each a place and the bytes to write
+        there, or None for a sync."""
+        entry, before = cache.entries[number - 1], cache.states[number - 1]
+        half, slot, names, writes = self.half, self.end, [], {}
+        if not has_room(self.geometry, self.end, slots_of(entry)):
+            half, slot = 1 - self.half, end_of_rows(before)
+            names = checkpoint_calls(self.is_other_open)
+            writes = self.checkpoint_writes(before, number - 1)
+        records = records_of(entry)
+        writes["root"] = self.root_writes(records)
+        writes["record"] = [self.record_write(*record) for record in records]
+        writes.update(self.group_writes(number, entry, half, slot))
+        names += group_calls(len(writes["root"]), len(records))
+        return [None if name == "sync" else writes[name].pop(0) for name in names]
+
+    def store(self, cache, number):
+        for call in self.calls(cache, number):
             if call:
                 at, data = call
                 self.bytes[at:at + len(data)] = data
-        if self.is_due(entry):
-            self.half, self.epoch, self.slot = 1 - self.half, self.epoch + 1, self.behind_rows()
-            self.is_other_open = True
-        self.slot += 1 + slots_of(entry)
-        if entry[0] == "unload":
-            self.rows = [row for row in self.rows if row[1] != entry[1]]
-        elif entry[0] == "unloadall":
-            self.rows = [row for row in self.rows if row[1] not in entry[1]]
-        elif entry[0] == "move":
-            _, loader, old, new, _ = entry
-            self.rows = [(*row[:2], new, *row[3:]) if row[:3] == ("define", loader, old) else row
-                         for row in self.rows]
-        else:
-            self.rows.append(entry)
+        slots = slots_of(cache.entries[number - 1])
+        if not has_room(self.geometry, self.end, slots):
+            self.half, self.epoch = 1 - self.half, self.epoch + 1
+            self.end, self.is_other_open = end_of_rows(cache.states[number - 1]), True
+        self.end += 1 + slots
 
 
 def file_of(cache):
-    """The bytes of the file that holds a cache, made new and by its commands one after another."""
+    """The file that holds a cache, made new and by its commands one after another."""
     region = Region(cache.geometry)
-    for number, entry in enumerate(cache.entries, 1):
-        region.store(number, entry)
-    return bytes(region.bytes)
+    for number in range(1, cache.number + 1):
+        region.store(cache, number)
+    return region
 
 
 # ---- reading
@@ -206,12 +234,6 @@ def number(data, at, size):
     return int.from_bytes(data[at:at + size], "little")
 
 
-def meet(chunk, other):
-    (root, order, at), (other_root, other_order, other_at) = chunk, other
-    return (root == other_root and at < other_at + (oracle.UNIT << other_order)
-            and other_at < at + (oracle.UNIT << order))
-
-
 class File:
     """A file that is read; making one raises its first damage."""
 
@@ -229,15 +251,15 @@ class File:
         data = self.data
         if len(data) < SUPERBLOCK or data[:8] != MAGIC or data[SUPERBLOCK - 1] != OPEN:
             raise NotACache
-        version, self.top, self.limit, self.slots = struct.unpack("<IIII", data[8:24])
-        within = 3 <= self.top <= 12 and 1 <= self.limit <= 256 and 256 <= self.slots <= 65_536
-        if version != 1 or not within or any(data[24:SUPERBLOCK - 1]):
+        version, *sizes = struct.unpack("<IIII", data[8:24])
+        self.geometry = oracle.Geometry(*sizes)
+        self.slots = self.geometry.slots
+        if (version != 1 or not self.geometry.is_within_limits()
+                or any(data[24:SUPERBLOCK - 1])):
             raise Damaged(1, 0)
-        self.start = SUPERBLOCK + 2 * SLOT * self.slots
-        if len(data) < self.start:
+        if len(data) < root_at(self.geometry, 0):
             raise Damaged(2, 0)
-        self.root_words = oracle.UNIT << self.top
-        self.roots = (len(data) - self.start) // (8 * self.root_words)
+        self.roots = roots_in(self.geometry, len(data))
 
     def slot(self, index):
         return self.data[SUPERBLOCK + SLOT * index:SUPERBLOCK + SLOT * (index + 1)]
@@ -252,8 +274,8 @@ class File:
             version, live = number(slot, 2, 2), number(slot, 4, 4)
             epoch, base = number(slot, 8, 8), number(slot, 16, 8)
             good = slot == head_slot(live, epoch, base, gate=OPEN, version=version)
-            if not (good and 1 <= version <= VERSION and live <= self.slots // 2
-                    and base <= NUMBERS and 1 <= epoch <= base + version):
+            if not (good and 1 <= version <= VERSION and live <= self.geometry.row_slots
+                    and base <= oracle.LAST_NUMBER and 1 <= epoch <= base + version):
                 raise Damaged(4, index)
             halves[half] = (epoch, live, base, version)
         if not halves or len(halves) == 2 and halves[0][0] == halves[1][0]:
@@ -269,9 +291,10 @@ class File:
         while place < self.slots and self.slot(first + place)[0] == OPEN:
             slot = self.slot(first + place)
             count, begins = number(slot, 2, 2), number(slot, 8, 8)
-            good = slot == group_slot(count, begins, gate=OPEN) and 1 <= count <= 64
-            good = good and place + count <= self.slots - 1 and begins == self.number + 1
-            if not good or self.number + self.numbers(first + place + 1, count) > NUMBERS:
+            good = slot == group_slot(count, begins, gate=OPEN)
+            good = good and 1 <= count <= oracle.GROUP_SLOTS
+            good = good and has_room(self.geometry, place, count) and begins == self.number + 1
+            if not good or not self.has_numbers(first + place + 1, count):
                 raise Damaged(4, first + place)
             place, end = place + 1, place + 1 + count
             while place < end:
@@ -279,10 +302,11 @@ class File:
                 place += self.read_entry(first + place, first + end, self.number)
         self.end = place
 
-    def numbers(self, index, count):
-        """How many numbers the slots of a group take: a continuation slot takes none."""
+    def has_numbers(self, index, count):
+        """Whether there are numbers for the slots of a group: a continuation slot takes none."""
         kinds = [self.slot(index + place)[1] for place in range(count)]
-        return count if self.version == 1 else count - kinds.count(REST)
+        taken = count if self.version == 1 else count - kinds.count(REST)
+        return self.number + taken <= oracle.LAST_NUMBER
 
     def read_loader(self, index, end):
         """A loader's number and name. A long name continues in the slot after its own, which
@@ -310,24 +334,25 @@ class File:
             self.add_loader(index, own, loader, name)
             return oracle.slots_of_name(name)
         if kind == DEFINE and slot[0] == 0:
-            words, loader, root, order, at, offset = struct.unpack("<IQIIII", slot[4:32])
-            if slot != spelled(DEFINE, "2xIQIIII", words, loader, root, order, at, offset):
+            words, loader, *place, offset = struct.unpack("<IQIIII", slot[4:32])
+            if slot != spelled(DEFINE, "2xIQIIII", words, loader, *place, offset):
                 raise Damaged(5, index)
-            self.add_class(index, loader, (root, order, at), offset, words)
+            self.add_class(index, loader, oracle.Chunk(*place), offset, words)
         elif kind == UNLOAD and slot[0] == 0 and own is not None:
             if slot != entry_slots(("unload", number(slot, 8, 8))):
                 raise Damaged(5, index)
             self.unload(index, number(slot, 8, 8))
         elif kind == UNLOAD_ALL and slot[0] == 0 and own is not None:
-            loaders = [number(slot, 8 * place, 8) for place in range(1, 1 + min(slot[2], 7))]
-            if not 1 <= slot[2] <= 7 or slot != entry_slots(("unloadall", loaders)):
+            count = min(slot[2], oracle.UNLOAD_LIMIT)
+            loaders = [number(slot, 8 * place, 8) for place in range(1, 1 + count)]
+            if not 1 <= count == slot[2] or slot != entry_slots(("unloadall", loaders)):
                 raise Damaged(5, index)
             self.unload_all(index, loaders)
         elif kind == MOVE and slot[0] == 0 and own is not None:
             loader, *places = struct.unpack("<QIIIIII", slot[8:40])
             if slot != spelled(MOVE, "6xQIIIIII", loader, *places):
                 raise Damaged(5, index)
-            self.move(index, loader, tuple(places[:3]), tuple(places[3:]))
+            self.move(index, loader, oracle.Chunk(*places[:3]), oracle.Chunk(*places[3:]))
         else:
             raise Damaged(5, index)
         return 1
@@ -342,7 +367,7 @@ class File:
         return any(row.loader == loader for row in self.loaders())
 
     def has_room(self, slots):
-        return sum(row.slots for row in self.rows) + slots <= self.slots // 2
+        return sum(row.slots for row in self.rows) + slots <= self.geometry.row_slots
 
     def add_loader(self, index, own, loader, name):
         good = oracle.is_loader_name(name) and self.has_room(oracle.slots_of_name(name))
@@ -356,28 +381,18 @@ class File:
             raise Damaged(6, index)
         self.rows.append(Row(index, loader, name=name))
 
-    def is_chunk(self, chunk):
-        root, order, at = chunk
-        if order > self.top or root >= self.limit:
-            return False
-        size = oracle.UNIT << order
-        return at % size == 0 and at + size <= self.root_words
-
     def last_chunk(self, loader):
         """A loader's last chunk and its used words."""
-        classes = self.classes(loader)
-        if not classes:
-            return None, 0
-        return (classes[-1].chunk,
-                sum(row.words for row in classes if row.chunk == classes[-1].chunk))
+        chain = oracle.chain_of((row.chunk, row.words) for row in self.classes(loader))
+        return chain[-1] if chain else (None, 0)
 
     def is_apart(self, chunk):
-        return not any(row.chunk and meet(chunk, row.chunk) for row in self.rows)
+        return not any(row.chunk and chunk.meets(row.chunk) for row in self.rows)
 
     def add_class(self, index, loader, chunk, offset, words):
         if not self.lives(loader) or not self.has_room(1):
             raise Damaged(6, index)
-        good = self.is_chunk(chunk) and words >= 1 and offset + words <= oracle.UNIT << chunk[1]
+        good = self.geometry.has(chunk) and words >= 1 and offset + words <= chunk.words
         if not good or ((chunk, offset) != self.last_chunk(loader)
                         and not (offset == 0 and self.is_apart(chunk))):
             raise Damaged(7, index)
@@ -395,23 +410,22 @@ class File:
 
     def move(self, index, loader, old, new):
         last, used = self.last_chunk(loader)
-        if (last is None or last != old or not self.is_chunk(new) or not self.is_apart(new)
-                or used > oracle.UNIT << new[1]):
+        if (last is None or last != old or not self.geometry.has(new) or not self.is_apart(new)
+                or used > new.words):
             raise Damaged(7, index)
         for row in self.classes(loader):
             if row.chunk == old:
                 row.chunk = new
 
     def read_record(self, row):
-        root, _, at = row.chunk
-        if root >= self.roots:
+        if row.chunk.root >= self.roots:
             raise Damaged(7, row.slot)
-        begin = self.start + 8 * (root * self.root_words + at + row.offset)
+        begin = root_at(self.geometry, row.chunk.root) + 8 * (row.chunk.at + row.offset)
         words = list(struct.unpack(f"<{row.words}Q", self.data[begin:begin + 8 * row.words]))
-        row.read = class_of(words)
-        if not row.read:
+        row.made = class_of(words)
+        if not row.made:
             raise Damaged(8, row.slot)
-        row.name = row.read.class_name(row.read.this_class)
+        row.name = row.made.name
         for earlier in self.classes(row.loader):
             if earlier is row:
                 break
@@ -438,7 +452,7 @@ class File:
 
     def report(self):
         classes = [row for row in self.rows if row.chunk]
-        chunks = {row.chunk for row in classes}
+        chunks = self.chunks()
         return (f"ok loaders {len(self.loaders())} classes {len(classes)} "
                 f"chunks {len(chunks)} number {self.number}")
 
@@ -446,37 +460,35 @@ class File:
         for loader in sorted(self.loaders(), key=lambda row: row.name):
             yield b"loader %s" % loader.name
             for row in sorted(self.classes(loader.loader), key=lambda row: row.name):
-                place = row.chunk[2] + row.offset
+                place = row.chunk.at + row.offset
                 yield b"class %s words %d root %d at %d" % (oracle.escaped(row.name), row.words,
-                                                            row.chunk[0], place)
+                                                            row.chunk.root, place)
+
+    def chunks(self):
+        return {row.chunk for row in self.rows if row.chunk}
 
     def roots_used(self):
-        """One more than the greatest root in which a class lies."""
-        return max((row.chunk[0] + 1 for row in self.rows if row.chunk), default=0)
+        return oracle.roots_used(self.chunks())
 
     def state(self):
         """Each loader's classes, by their records' words."""
-        return {loader.name: {row.name: row.read.record() for row in self.classes(loader.loader)}
+        return {loader.name: {row.name: row.made.words for row in self.classes(loader.loader)}
                 for loader in self.loaders()}
 
 
-def state_of(cache):
-    """The same of a cache that the commands made."""
-    return {name: {class_name: live.words for class_name, live in loader.classes.items()}
-            for name, loader in cache.loaders.items()}
+def state_of(loaders):
+    """The same of the loaders of a cache."""
+    return {name: {class_name: live.made.words for class_name, live in loader.classes.items()}
+            for name, loader in loaders.items()}
 
 
 def class_of(words):
     """The class that keeps the rules and has this record; None if there is none."""
     try:
-        data = class_file_of(words)
-    except (IndexError, struct.error):
+        made = oracle.prepare(class_file_of(words))
+    except (IndexError, struct.error, oracle.Refused):
         return None
-    found, fault = oracle.read_shape(data)
-    if (fault or len(words) > oracle.RECORD_LIMIT or found.record() != words
-            or oracle.first_fault(found)):
-        return None
-    return found
+    return made if made.words == words else None
 
 
 def parts(word):
@@ -550,10 +562,7 @@ def main(words):
         out.write(Region(oracle.Geometry(*map(int, words[1:]))).bytes)
         return 0
     if words[0] == "after":
-        cache = oracle.Cache()
-        for line in oracle.lines_of(sys.stdin.buffer.read()):
-            cache.answer(line)
-        out.write(file_of(cache))
+        out.write(file_of(oracle.answers(oracle.lines_of(sys.stdin.buffer.read()))[0]).bytes)
         return 0
     try:
         file = read(words[1])

@@ -92,7 +92,7 @@ def run(program, words, lines=(), env=None, limit=None):
 def answers(cache, lines):
     """The replies to lines, and the status that a run of them ends with."""
     replies = [cache.answer(line) for line in lines]
-    return replies, int(any(reply.startswith(b"refused") for reply in replies))
+    return replies, oracle.status_of(replies)
 
 
 def state_in(path):
@@ -111,7 +111,7 @@ def settle(checks, name, path, cache, line):
     state, number = state_in(path)
     if line is not None and is_change(line) and number == cache.number + 1:
         cache.answer(line)
-    holds = number == cache.number and state == region.state_of(cache)
+    holds = number == cache.number and state == region.state_of(cache.loaders)
     return checks.check(name, holds, f"the file holds number {number}, "
                         f"{cache.number} was acknowledged: {state!s:.200}")
 
@@ -132,7 +132,3 @@ def tell(checks, name, program, path):
                         f"got {checked}")
     return (checks.check(f"{name}, listed", listed == ([*file.listed()], 0, ""), f"got {listed}")
             and good)
-
-
-def new_cache(geometry=None):
-    return oracle.Cache(geometry)

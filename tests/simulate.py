@@ -7,10 +7,10 @@ each device call.
     tests/simulate.py PROGRAM LIBRARY N  a simulation once for each of its allocations, with that
                                          one refused; N are met
 
-The model holds loaders and classes as dictionaries, with the chunk in which each class lies, what
-is handed out and what is acknowledged, which chunks wait, and what the device call under way may
-leave of the file. It is written from the project's description and shares no code with the program;
-tests/oracle.py checks the class files. Its random numbers have fixed seeds.
+What is accepted, and where it lies, is oracle.py's; the device calls of a group are region.py's.
+The world around them has what is handed out and what is acknowledged, and what the device call
+under way may leave of the file. It is written from the project's description and shares no code
+with the program. Its random numbers have fixed seeds.
 """
 import functools
 import os
@@ -26,8 +26,6 @@ import oracle
 import region
 
 LISTS = 1500
-UNIT = 128  # words of the least chunk
-MOST_IN_GROUP = 64  # slots
 MOST_ALLOCATIONS = 2000
 
 
@@ -51,94 +49,41 @@ def class_p(name, count):
             + struct.pack(">I", count) + bytes(count))
 
 
-def judged(data):
-    """The name and the words of a class, or None and the refusal."""
-    found, fault = oracle.read_shape(data)
-    if fault or oracle.first_fault(found):
-        return None, 14
-    words = len(found.record())
-    return (None, 5) if words > oracle.RECORD_LIMIT else (found.class_name(found.this_class), words)
-
-
 # ---- the world
-
-# The device calls of a checkpoint, before those of the group that has no room; if the other half is
-# shut, a sync takes the place of the first.
-CHECKPOINT = ["other half's gate", "sync", "rows", "sync", "new half's gate", "sync"]
-
-# Those of a trim.
-TRIM = ["cut", "sync"]
 
 # Whose gate a call writes, and the byte there before and after it.
 GATES = {
-    "other half's gate": ("other half", 0xa5, 0),
-    "new half's gate": ("new half", 0, 0xa5),
-    "gate": ("group", 0, 0xa5),
+    "other half's gate": ("other half", region.OPEN, 0),
+    "new half's gate": ("new half", 0, region.OPEN),
+    "gate": ("group", 0, region.OPEN),
 }
-
-
-def slots_of(name):
-    """How many slots a loader of this name takes."""
-    return 2 if len(name) > 48 else 1
-
-
-def rows_in(loaders):
-    """How many slots the live loaders and classes take."""
-    return sum(slots_of(name) + len(classes) for name, classes in loaders.items())
-
-
-def is_name(name):
-    return bool(re.fullmatch(rb"[\x21-\x7e]{1,96}", name))
-
-
-def order_for(words):
-    """The least order whose chunks hold this many words."""
-    return next(order for order in range(64) if UNIT << order >= words)
-
-
-def chain_of(classes):
-    """A loader's chunks in their order, each with its used words."""
-    used = {}
-    for words, chunk in classes.values():
-        used[chunk] = used.get(chunk, 0) + words
-    return list(used.items())
-
-
-def roots_in(loaders):
-    """One more than the greatest root in which a class lies."""
-    return max((chunk[0] + 1 for classes in loaders.values() for _, chunk in classes.values()),
-               default=0)
 
 
 class Group:
     """Commands that are stored together: the numbers of the first and the last, and how many slots
     all of them take."""
 
-    def __init__(self, first, last, slots):
+    def __init__(self, first):
         self.first = first
-        self.last = last
-        self.slots = slots
+        self.last = first - 1
+        self.slots = 0
+
+    def has_room(self, slots):
+        return self.slots + slots <= oracle.GROUP_SLOTS
 
 
 class World:
-    """A chunk is a root, an order and the first of its words."""
+    """A cache on a device: what it accepts is oracle.py's, and around it are the groups that are
+    handed out, the device calls that store them, and what a crash may leave of the file."""
 
-    def __init__(self, top, roots, slots):
-        self.top = top
-        self.limit = roots
-        self.root_words = UNIT << top
-        self.root_bytes = 8 * UNIT << top
-        self.base = 4096 + 128 * slots
-        self.slots = slots
-        # Of each command, how many records it writes, the roots that the file needs for them, and
-        # how many slots it takes.
-        self.commands = []
-        # After each command, the loaders' classes, each with its words and its chunk.
-        self.states = [{}]
+    def __init__(self, *sizes):
+        self.geometry = oracle.Geometry(*sizes)
+        self.cache = oracle.Cache(self.geometry)
+        self.base = region.root_at(self.geometry, 0)
+        self.root_bytes = region.root_at(self.geometry, 1) - self.base
         # Where crashes came, calls failed and records moved, for the test's own count.
         self.stops = []
         self.length = self.least = self.greatest = self.base
-        self.acknowledged = 0
         # The slot where the half that counts ends, and whether the other half is open.
         self.end, self.is_other_open = 1, False
         self.open_again(0)
@@ -147,18 +92,13 @@ class World:
 
     def open_again(self, number):
         """The file is opened, whose last command is this one."""
-        del self.commands[number:]
-        del self.states[number + 1:]
+        self.cache.reopened(number)
         self.acknowledged = self.sealed = number
         self.queue = []
         self.under_way = None
         self.calls = []
         self.broken = self.told = False
         self.armed = None
-        # The roots of which the accepted cache knows, and the chunks that wait, each with the
-        # number of the command that left it.
-        self.present = roots_in(self.loaders())
-        self.waiting = []
         self.settle()
 
     def settle(self):
@@ -172,159 +112,75 @@ class World:
         turned = self.turned
         self.settle()
         if turned == "other half":
-            self.is_other_open = gate == 0xa5
-        elif turned == "new half" and gate == 0xa5:
-            self.end = 1 + rows_in(self.states[self.acknowledged])
+            self.is_other_open = gate == region.OPEN
+        elif turned == "new half" and gate == region.OPEN:
+            self.end = region.end_of_rows(self.stored())
             self.is_other_open = True
-        elif turned == "group" and gate == 0xa5:
+        elif turned == "group" and gate == region.OPEN:
             self.end += 1 + self.under_way.slots
             return self.under_way.last
         return self.acknowledged
 
-    def number(self):
-        return len(self.commands)
-
     def loaders(self):
-        return self.states[-1]
+        return self.cache.loaders
 
-    def file_roots(self):
-        return (self.length - self.base) // self.root_bytes
+    def stored(self):
+        """The loaders as they are acknowledged."""
+        return self.cache.states[self.acknowledged]
 
-    # -- chunks
-
-    def first_free(self, order):
-        """The first free chunk of an order in the roots that are present."""
-        taken = [chunk for classes in self.loaders().values() for chunk, _ in chain_of(classes)]
-        taken += [chunk for _, chunk in self.waiting]
-        size = UNIT << order
-        for root in range(self.present):
-            for at in range(0, self.root_words, size):
-                if all(root != other or at + size <= begin or begin + (UNIT << large) <= at
-                       for other, large, begin in taken):
-                    return root, order, at
-        return None
-
-    def place(self, classes, words):
-        """The chunk for a class of this many words in the loader with these classes."""
-        chain, need = chain_of(classes), order_for(words)
-        if chain and chain[-1][1] + words <= UNIT << chain[-1][0][1]:
-            return chain[-1][0]
-        wanted = max(need, min(len(chain), 4, self.top))
-        chunk = self.first_free(wanted) or self.first_free(need)
-        return chunk or ((self.present, wanted, 0) if self.present < self.limit else None)
-
-    def better(self, classes):
-        """The loader's last chunk, and the one to which its words may move."""
-        chain = chain_of(classes)
-        if not chain:
-            return None
-        old, used = chain[-1]
-        new = self.first_free(order_for(used))
-        if not new or not (new[1] < old[1] or (new[0], new[2]) < (old[0], old[2])):
-            return None
-        return old, new
+    def used_end(self):
+        """Where the last root ends that the stored classes use."""
+        used = oracle.roots_used(oracle.chunks_of(self.stored()))
+        return region.root_at(self.geometry, used)
 
     # -- commands
 
-    def accept(self, loaders, refusal, records=(), left=(), slots=1):
-        """Of a command that writes records into these chunks, leaves chunks, and takes this many
-        slots."""
+    def accept(self, command, *words):
         if self.told:
             return "refused 10"
-        if refusal:
-            return f"refused {refusal}"
-        roots = max((chunk[0] + 1 for chunk in records), default=0)
-        self.commands.append((len(records), roots, slots))
-        self.states.append(loaders)
-        self.present = max(self.present, roots_in(loaders))
-        self.waiting += [(self.number(), chunk) for chunk in left]
-        return f"number {self.number()}"
-
-    def is_full(self, slots):
-        """Whether the live rows leave no room for this many slots more."""
-        return rows_in(self.loaders()) + slots > self.slots // 2
+        try:
+            return f"number {command(*words)}"
+        except oracle.Refused as refusal:
+            return f"refused {refusal.cause}"
 
     def loader(self, name):
-        refusal = None
-        if not is_name(name):
-            refusal = 1
-        elif name in self.loaders():
-            refusal = 2
-        elif self.is_full(slots_of(name)):
-            refusal = 7
-        return self.accept({**self.loaders(), name: {}}, refusal, slots=slots_of(name))
-
-    def named(self, name):
-        """Why there is no loader of that name."""
-        if not is_name(name):
-            return 1
-        return None if name in self.loaders() else 3
+        return self.accept(self.cache.loader, name)
 
     def unload(self, name):
-        left = [chunk for chunk, _ in chain_of(self.loaders().get(name, {}))]
-        return self.accept({n: c for n, c in self.loaders().items() if n != name},
-                           self.named(name), left=left)
+        return self.accept(self.cache.unload, name)
 
     def unloadall(self, *names):
-        refusal = None
-        if len(names) > 7 or len(set(names)) < len(names):
-            refusal = 16
-        else:
-            refusals = [self.named(name) for name in names]
-            refusal = 1 if 1 in refusals else 3 if 3 in refusals else None
-        left = [chunk for name in names for chunk, _ in chain_of(self.loaders().get(name, {}))]
-        return self.accept({n: c for n, c in self.loaders().items() if n not in names}, refusal,
-                           left=left)
+        return self.accept(self.cache.unload_all, names)
 
     def tighten(self, name):
-        refusal = self.named(name)
-        classes = self.loaders().get(name, {})
-        move = self.better(classes)
-        if refusal or not move:
-            return self.accept(None, refusal or 8)
-        old, new = move
-        moved = {n: (words, new if chunk == old else chunk)
-                 for n, (words, chunk) in classes.items()}
-        records = [chunk for _, chunk in moved.values() if chunk == new]
-        reply = self.accept({**self.loaders(), name: moved}, None, records, [old])
-        if reply != "refused 10":
+        reply = self.accept(self.cache.tighten, name)
+        if reply.startswith("number"):
             self.stops.append("moved")
         return reply
 
     def define(self, name, data):
-        class_name, words = judged(data)
-        if class_name is None:
-            return f"refused {words}"
-        refusal = self.named(name)
-        classes = self.loaders().get(name, {})
-        if not refusal and class_name in classes:
-            refusal = 4
-        elif not refusal and words > self.root_words:
-            refusal = 5
-        elif not refusal and self.is_full(1):
-            refusal = 7
-        if refusal:
-            return self.accept(None, refusal)
-        chunk = self.place(classes, words)
-        if not chunk:
-            return self.accept(None, 6)
-        return self.accept({**self.loaders(), name: {**classes, class_name: (words, chunk)}}, None,
-                           [chunk])
+        """A class that can't be prepared is refused for that, whatever was learnt of the device."""
+        try:
+            made = oracle.prepare(data)
+        except oracle.Refused as refusal:
+            return f"refused {refusal.cause}"
+        return self.accept(self.cache.define, name, made)
 
     def look(self, name, class_name):
-        found = self.loaders().get(name, {}).get(class_name)
-        return f"class {found[0]}" if found else "none"
+        found = self.cache.find(name, class_name)
+        return f"class {len(found.words)}" if found else "none"
 
     # -- groups
 
     def seal(self):
-        if self.sealed == self.number():
+        """Commands that aren't sealed are in groups of as many as fit, except those in the
+        newest."""
+        if self.sealed == self.cache.number:
             return "none"
-        # Unsealed commands are in groups of as many as fit into 64 slots, except those in the
-        # newest.
-        group = Group(self.sealed + 1, self.sealed, 0)
-        for _, _, slots in self.commands[self.sealed:]:
-            if group.slots + slots > MOST_IN_GROUP:
+        group = Group(self.sealed + 1)
+        for entry in self.cache.entries[self.sealed:]:
+            slots = region.slots_of(entry)
+            if not group.has_room(slots):
                 break
             group.last += 1
             group.slots += slots
@@ -334,16 +190,17 @@ class World:
 
     def take_group(self):
         group = self.queue.pop(0)
-        while self.queue and group.slots + self.queue[0].slots <= MOST_IN_GROUP:
+        while self.queue and group.has_room(self.queue[0].slots):
             other = self.queue.pop(0)
             group.last, group.slots = other.last, group.slots + other.slots
-        written = self.commands[group.first - 1:group.last]
-        records = sum(count for count, _, _ in written)
-        grows = max(0, max(roots for _, roots, _ in written) - self.file_roots())
         self.under_way = group
-        if self.end + 1 + group.slots > self.slots:
-            self.calls = ["other half's gate" if self.is_other_open else "sync", *CHECKPOINT[1:]]
-        self.calls += ["root"] * grows + ["record"] * records + ["group", "sync", "gate", "sync"]
+        if not region.has_room(self.geometry, self.end, group.slots):
+            self.calls = region.checkpoint_calls(self.is_other_open)
+        records = [record for entry in self.cache.entries[group.first - 1:group.last]
+                   for record in region.records_of(entry)]
+        used = oracle.roots_used(chunk for chunk, _, _ in records)
+        grows = max(0, used - region.roots_in(self.geometry, self.length))
+        self.calls += region.group_calls(grows, len(records))
 
     def advance(self, may_fail=False):
         if self.broken:
@@ -363,7 +220,7 @@ class World:
         if self.calls:
             return "working"
         if self.under_way is None:
-            return f"trimmed {self.file_roots()}"
+            return f"trimmed {region.roots_in(self.geometry, self.length)}"
         group, self.under_way = self.under_way, None
         self.acknowledged = group.last
         return f"done {group.last}"
@@ -374,9 +231,9 @@ class World:
             self.stops.append(f"fault in {call}")
         if call == "root":
             stored = self.root_bytes if fails is None else min(fails, self.root_bytes)
-            at = self.base + self.file_roots() * self.root_bytes
-            self.length = max(self.length, at + stored)
-            self.greatest = max(self.greatest, at + self.root_bytes)
+            new = region.roots_in(self.geometry, self.length)
+            self.length = max(self.length, region.root_at(self.geometry, new) + stored)
+            self.greatest = max(self.greatest, region.root_at(self.geometry, new + 1))
         elif call in GATES:
             self.turned, before, after = GATES[call]
             self.loose = True
@@ -389,22 +246,18 @@ class World:
             self.least = self.greatest = self.length
             self.turn(self.gate)
 
-    def used_end(self):
-        """Where the last root ends that the stored classes use."""
-        return self.base + roots_in(self.states[self.acknowledged]) * self.root_bytes
-
     def trim(self):
         if self.broken or self.calls:
             return "not idle"
         if self.length < self.used_end() + self.root_bytes:
             return "nothing"
-        self.calls = list(TRIM)
+        self.calls = list(region.TRIM)
         return "due"
 
     def learn(self):
         if self.broken:
             self.told = True
-        self.waiting = [wait for wait in self.waiting if wait[0] > self.acknowledged]
+        self.cache.learn(self.acknowledged)
         return f"learnt {self.acknowledged}"
 
     # -- the end of a world, and the next
@@ -416,7 +269,7 @@ class World:
     def reopen(self):
         self.least = self.greatest = self.length
         self.open_again(self.turn(self.gate))
-        return f"opened {self.number()}"
+        return f"opened {self.cache.number}"
 
     def crash(self, length, fill):
         """If a gate's byte is unsynced, nothing else is."""
@@ -425,7 +278,7 @@ class World:
         gate = fill[0] if self.loose and fill else self.gate
         self.length = self.least = self.greatest = max(self.least, min(length, self.greatest))
         self.open_again(self.turn(gate))
-        return f"opened {self.number()}"
+        return f"opened {self.cache.number}"
 
 
 # ---- simulations as text
@@ -437,16 +290,17 @@ class Simulation:
         self.world = World(top, roots, slots)
         self.lines = [b"geometry %d %d %d" % (top, roots, slots)]
         self.events = []
+        self.replies = []
 
     def add(self, name, *words):
-        """An event, and the reply that the model expects."""
+        """An event; the reply that the model expects."""
         shown = [w if isinstance(w, bytes) else b"%d" % w for w in words]
         if name in ("define", "crash"):
             shown[1] = shown[1].hex().encode() or b"-"
         self.lines.append(b" ".join([name.encode()] + shown))
         self.events.append((name, words))
-        self.due = getattr(self.world, name)(*words)
-        return self.due
+        self.replies.append(getattr(self.world, name)(*words))
+        return self.replies[-1]
 
     def text(self):
         return b"".join(line + b"\n" for line in self.lines)
@@ -496,7 +350,7 @@ def draw_name(draw, world):
 
 def draw_tail(draw, world):
     """A loader's name: mostly one of several chunks."""
-    long = sorted(n for n, classes in world.loaders().items() if len(chain_of(classes)) > 1)
+    long = sorted(n for n, loader in world.loaders().items() if len(loader.chain()) > 1)
     return draw.choice(long) if long and draw.random() < 0.8 else draw_name(draw, world)
 
 
@@ -538,7 +392,7 @@ def draw_event(draw, simulation, busy, at_rest):
         add("trim")
     else:
         length = draw.choice([0, 1 << 40, world.base, world.base + world.root_bytes,
-                              world.base + draw.randrange(world.limit * world.root_bytes)])
+                              world.base + draw.randrange(world.geometry.roots * world.root_bytes)])
         add("crash", length,
             draw.choice(FILLS) if draw.random() < 0.7 else draw.randbytes(draw.randrange(1, 200)))
 
@@ -581,38 +435,32 @@ def draw_list(seed):
     return simulation
 
 
-def replies_due(simulation):
-    """The replies of the model, to the same events from the beginning."""
-    again = World(*(int(word) for word in simulation.lines[0].split()[1:]))
-    return [getattr(again, name)(*words) for name, words in simulation.events]
-
-
 def compare(checks, program, simulation, what):
-    due = replies_due(simulation)
+    due = simulation.replies
     got, status, _ = run(program, simulation.text())
     at = next((i for i, pair in enumerate(zip(due, got)) if pair[0] != pair[1]), None)
     line = ("" if at is None
             else f", line {at + 2} {simulation.lines[at + 1][:60]!r}: {got[at]} and not {due[at]}")
     checks.check(got == due and status == 0,
                  f"{what}: status {status}, {len(got)} of {len(due)} replies{line}")
-    return due
 
 
 def check_lists(checks, program):
     met = {}
     for seed in range(LISTS):
         simulation = draw_list(seed)
-        due = compare(checks, program, simulation, f"list {seed}")
+        compare(checks, program, simulation, f"list {seed}")
         replies = [reply if reply.startswith("refused") or reply == "none" else reply.split()[0]
-                   for reply in due]
+                   for reply in simulation.replies]
         for kind in replies + simulation.world.stops:
             met[kind] = met.get(kind, 0) + 1
     wanted = [f"refused {n}" for n in (1, 2, 3, 4, 5, 6, 7, 8, 10, 14)]
     wanted += ["number", "group", "none", "idle", "working", "done", "device", "broken", "learnt",
                "class", "armed", "opened", "due", "nothing", "not", "trimmed", "moved"]
     # A root is the first call of its group: before it the cache is at rest.
-    wanted += ([f"fault in {call}" for call in {*CALLS, *TRIM}]
-               + [f"crash before {call}" for call in {*CALLS, *TRIM} - {"root"}])
+    calls = {*CALLS, *region.TRIM}
+    wanted += ([f"fault in {call}" for call in calls]
+               + [f"crash before {call}" for call in calls - {"root"}])
     wanted += ["crash, gate of the group unsynced", "crash at rest"]
     missed = [f"{kind} ({met.get(kind, 0)})" for kind in wanted if met.get(kind, 0) < 20]
     checks.check(not missed,
@@ -622,7 +470,7 @@ def check_lists(checks, program):
 
 # ---- walks
 
-CALLS = ["root", "record", "group", "sync", "gate", "sync"]
+CALLS = region.group_calls(1, 1)
 
 
 def beginning():
@@ -646,8 +494,8 @@ def store(simulation):
 def fill_half(simulation):
     """Groups are stored until the half that counts has no room for another."""
     world = simulation.world
-    while world.end + 2 <= world.slots:
-        for _ in range(min(MOST_IN_GROUP, world.slots - world.end - 1)):
+    while region.has_room(world.geometry, world.end, 1):
+        for _ in range(min(oracle.GROUP_SLOTS, world.geometry.slots - world.end - 1)):
             simulation.add("unload" if b"x" in world.loaders() else "loader", b"x")
         store(simulation)
 
@@ -702,15 +550,15 @@ def stop(simulation, device_calls, calls, stored, end):
 
 def check_walk(checks, program, simulation, device_calls, calls, stored, end):
     """A define is stopped."""
-    number, at_end = simulation.world.number(), len(device_calls)
+    number, at_end = simulation.world.cache.number, len(device_calls)
     there = stop(simulation, device_calls, calls, stored, end)
     simulation.add("look", b"app", b"A")
     what = (f"a define of {at_end} calls stopped after {calls}, {stored} bytes stored of the "
             f"last, {end[0]}")
-    due = compare(checks, program, simulation, what)
+    compare(checks, program, simulation, what)
     wanted = [f"opened {number}", "class 16"] if there else [f"opened {number - 1}", "none"]
-    checks.check(due[-2:] == wanted and (calls < at_end or stored is not None or there),
-                 f"{what}: the model")
+    is_right = calls < at_end or stored is not None or there
+    checks.check(simulation.replies[-2:] == wanted and is_right, f"{what}: the model")
     # What is opened can be used further.
     simulation.add("loader", b"next")
     store(simulation)
@@ -725,9 +573,9 @@ def check_walks(checks, program):
                       (b"", b"\xa5", b"\x00", b"\xff", b"\xa5" * 9000)))
     check_each_stop(checks, program, check_walk, beginning, CALLS, walks)
     walks = list(ends((0, 1 << 40), (b"", b"\xa5", b"\x00", b"\xa5" * 9000)))
-    for is_other_open, first in (False, "sync"), (True, CHECKPOINT[0]):
+    for is_other_open in (False, True):
         check_each_stop(checks, program, check_walk, lambda: before_checkpoint(is_other_open),
-                        [first, *CHECKPOINT[1:], *CALLS], walks)
+                        [*region.checkpoint_calls(is_other_open), *CALLS], walks)
 
 
 def check_each_stop(checks, program, check, begin, device_calls, walks):
@@ -745,7 +593,6 @@ def check_each_stop(checks, program, check, begin, device_calls, walks):
 # words are so few that they fit into one of order 0, of which the first free one is at 128.
 ONE_MOVES = [class_p(b"A", 0), class_p(b"B", 864)]
 TWO_MOVE = [class_p(b"A", 864), class_p(b"B", 0), class_p(b"C", 0)]
-MOVE = ["record", "group", "sync", "gate", "sync"]
 
 
 def before_move(classes):
@@ -777,16 +624,17 @@ def check_found(checks, program, simulation, what, replies, found):
     """The model's last replies are these, and then each class is found with its words."""
     for name, _ in found:
         simulation.add("look", b"app", name)
-    due = compare(checks, program, simulation, what)
+    compare(checks, program, simulation, what)
     wanted = replies + [f"class {words}" for _, words in found]
-    checks.check(due[-len(wanted):] == wanted, f"{what}: the model")
+    checks.check(simulation.replies[-len(wanted):] == wanted, f"{what}: the model")
 
 
 def check_move(checks, program, simulation, device_calls, calls, stored, end, goes_on=False):
     """A move is stopped: each class is found with its words, whether or not it moved. The records
     can move then if it isn't there; or, if that is asked for, only if it is there."""
-    number = simulation.world.number()
-    found = [(name, words) for name, (words, _) in simulation.world.loaders()[b"app"].items()]
+    number = simulation.world.cache.number
+    found = [(name, len(live.made.words))
+             for name, live in simulation.world.loaders()[b"app"].classes.items()]
     there = stop(simulation, device_calls, calls, stored, end)
     what = (f"a move of {len(device_calls)} calls stopped after {calls}, {stored} bytes stored of "
             f"the last, {end[0]}")
@@ -803,13 +651,13 @@ def check_move(checks, program, simulation, device_calls, calls, stored, end, go
 def check_moves(checks, program):
     walks = list(ends((0, 1 << 40), (b"", b"\xa5", b"\x00", b"\xa5" * 9000)))
     for classes, records in (ONE_MOVES, 1), (TWO_MOVE, 2):
-        calls = ["record"] * records + MOVE[1:]
+        calls = region.group_calls(0, records)
         check_each_stop(checks, program, check_move, lambda: handed_out(before_move(classes)),
                         calls, walks)
-        for is_other_open, first in (False, "sync"), (True, CHECKPOINT[0]):
+        for is_other_open in (False, True):
             check_each_stop(checks, program, check_move,
                             lambda: after_halves(classes, is_other_open),
-                            [first, *CHECKPOINT[1:], *calls], walks)
+                            [*region.checkpoint_calls(is_other_open), *calls], walks)
 
 
 def check_move_waits(checks, program):
@@ -861,12 +709,12 @@ def before_growth():
 
 def check_move_grows(checks, program):
     """A move into a root that was cut off writes that root again."""
-    checks.check(before_growth().due == "trimmed 1", "a trim cuts off the second root")
+    checks.check(before_growth().replies[-1] == "trimmed 1", "a trim cuts off the second root")
     walks = list(ends((0, 1 << 40), (b"", b"\xa5", b"\xa5" * 9000)))
     # The chunk that it left lies before the one in the second root, which no opening knows without
     # the move.
     check_each_stop(checks, program, functools.partial(check_move, goes_on=True),
-                    lambda: handed_out(before_growth()), ["root", *MOVE], walks)
+                    lambda: handed_out(before_growth()), region.group_calls(1, 1), walks)
     with tempfile.TemporaryDirectory() as folder:
         path = os.path.join(folder, "disk")
         simulation = handed_out(before_growth())
@@ -884,14 +732,14 @@ def check_trims(checks, program):
     for end in walks:
         for calls, fails in (0, False), (1, False), (2, False), (1, True), (2, True):
             simulation = before_trim()
-            checks.check(simulation.due == "due", "a trim is due")
+            checks.check(simulation.replies[-1] == "due", "a trim is due")
             for call in range(calls):
                 if fails and call == calls - 1:
                     simulation.add("fault", 0)
                 simulation.add("advance")
             simulation.add(*end)
             what = f"a trim stopped after {calls} calls, the last failed: {fails}, {end[0]}"
-            checks.check(simulation.due == "opened 3", f"{what}: the model")
+            checks.check(simulation.replies[-1] == "opened 3", f"{what}: the model")
             simulation.add("trim")
             while simulation.add("advance") == "working":
                 pass
@@ -900,7 +748,7 @@ def check_trims(checks, program):
             store(simulation)
             simulation.add("crash", 0, b"")
             simulation.add("look", b"next", b"A")
-            checks.check(simulation.due == "class 16", f"{what}: the model continues")
+            checks.check(simulation.replies[-1] == "class 16", f"{what}: the model continues")
             compare(checks, program, simulation, what)
 
 

@@ -66,13 +66,13 @@ def check_threads(checks, threads):
     """What all of them left, by loader."""
     state = {}
     for at, told in enumerate(threads):
-        cache = runs.new_cache(GEOMETRY)
+        cache = oracle.Cache(GEOMETRY)
         wrong = told.wrong(cache)
         checks.check(f"thread {at}: its answers", wrong is None, f"{wrong}")
         checks.check(f"thread {at}: its numbers rise", told.numbers == sorted(told.numbers))
         checks.check(f"thread {at}: its loaders are its own",
                      told.loaders == {b"t%d" % (2 * at), b"t%d" % (2 * at + 1)}, f"{told.loaders}")
-        state.update(region.state_of(cache))
+        state.update(region.state_of(cache.loaders))
     return state
 
 

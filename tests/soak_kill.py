@@ -9,7 +9,6 @@ under way at the kill. The file, read by region.py, checked and listed by the pr
 all that was acknowledged, and of each thread's call under way all or nothing: as many commands as
 its last number says.
 """
-import copy
 import os
 import random
 import subprocess
@@ -17,6 +16,7 @@ import sys
 import tempfile
 import threading
 
+import oracle
 import region
 import runs
 import soak
@@ -68,21 +68,21 @@ def with_call(cache, asked):
     nothing."""
     if asked is None or not runs.is_change(asked):
         return None
-    after = copy.deepcopy(cache)
+    after = cache.copy()
     reply = after.answer(soak.line_of(asked))
-    return region.state_of(after) if reply.startswith(b"ok ") else None
+    return region.state_of(after.loaders) if reply.startswith(b"ok ") else None
 
 
 def check_thread(checks, name, at, calls, state):
     """How many commands of the thread the file holds, and their numbers as far as they are known;
     `None` if it holds something else."""
     told = soak.Told(calls.lines)
-    cache = runs.new_cache(soak.GEOMETRY)
+    cache = oracle.Cache(soak.GEOMETRY)
     wrong = told.wrong(cache)
     checks.check(f"{name}, thread {at}: its answers", wrong is None, f"{wrong}")
     own = [b"t%d" % (2 * at), b"t%d" % (2 * at + 1)]
     there = {loader: state[loader] for loader in own if loader in state}
-    if there == region.state_of(cache):
+    if there == region.state_of(cache.loaders):
         return len(told.numbers), told.numbers
     if there == with_call(cache, calls.under_way):
         return len(told.numbers) + 1, told.numbers

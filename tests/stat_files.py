@@ -43,62 +43,55 @@ def long_script(draw):
     return "".join(f"{line}\n" for line in lines)
 
 
-def file_after(script, geometry):
-    cache = oracle.Cache(geometry)
-    for line in oracle.lines_of(script.encode()):
-        cache.answer(line)
-    return bytearray(region.file_of(cache))
-
-
 # ---- what is to be said
 
 def usage(rows):
     chunks = {row.chunk for row in rows}
-    owned = sum(WORD * (oracle.UNIT << order) for _, order, _ in chunks)
+    owned = sum(WORD * chunk.words for chunk in chunks)
     used = sum(WORD * row.words for row in rows)
     return {"classes": len(rows), "chunks": len(chunks), "owned": owned, "used": used,
             "free": owned - used}
 
 
-def largest_free(file, classes):
+def largest_free(file):
     """The greatest order of which some chunk of the region meets no chunk that is owned."""
-    chunks = {row.chunk for row in classes}
-    for order in range(file.top, -1, -1):
-        for root in range(file.limit):
-            for at in range(0, file.root_words, oracle.UNIT << order):
-                if not any(region.meet((root, order, at), chunk) for chunk in chunks):
+    for order in range(file.geometry.top, -1, -1):
+        for root in range(file.geometry.roots):
+            for at in range(0, file.geometry.root_words, oracle.UNIT << order):
+                if file.is_apart(oracle.Chunk(root, order, at)):
                     return order
     return None
 
 
 def chunks_of(classes):
     """The chunks in the order in which they were taken: their first records lie at offset 0."""
-    return [{"loader": row.loader, "root": row.chunk[0], "order": row.chunk[1],
-             "at": row.chunk[2],
+    return [{"loader": row.loader, "root": row.chunk.root, "order": row.chunk.order,
+             "at": row.chunk.at,
              "used": sum(WORD * other.words for other in classes if other.chunk == row.chunk)}
             for row in classes if row.offset == 0]
 
 
 def trimmed(file):
-    if min(file.roots, file.limit) <= file.roots_used():
+    if min(file.roots, file.geometry.roots) <= file.roots_used():
         return len(file.data)
-    return file.start + file.roots_used() * WORD * file.root_words
+    return region.root_at(file.geometry, file.roots_used())
 
 
 def statistics(file):
     classes = [row for row in file.rows if row.chunk]
     return {
         "number": file.number,
-        "sizes": {"top": file.top, "roots": file.limit, "slots": file.slots},
+        "sizes": vars(file.geometry),
         "journal": {"version": file.version, "half": file.half, "epoch": file.epoch,
                     "slots": file.end, "left": file.slots - file.end,
-                    "rows": sum(row.slots for row in file.rows), "row_limit": file.slots // 2},
+                    "rows": sum(row.slots for row in file.rows),
+                    "row_limit": file.geometry.row_slots},
         "region": {"bytes": len(file.data), "trimmed": trimmed(file), "roots": file.roots,
                    "used_roots": file.roots_used(),
-                   "largest_free_order": largest_free(file, classes)},
+                   "largest_free_order": largest_free(file)},
         "usage": usage(classes),
-        "orders": [usage([row for row in classes if row.chunk[1] == order])
-                   for order in range(file.top + 1)],
+        "orders": [usage([row for row in classes if row.chunk.order == order])
+                   for order in range(file.geometry.top + 1)],
         "loaders": [{"number": row.loader, "name": row.name.decode(),
                      "usage": usage(file.classes(row.loader))} for row in file.loaders()],
         "chunks": chunks_of(classes),
@@ -176,7 +169,7 @@ def files(count, draw):
     yield bytes(check.whole_file())
     for _ in range(count):
         geometry = oracle.Geometry(draw.choice([3, 4, 5]), draw.choice([1, 2, 3]), 256)
-        data = file_after(long_script(draw), geometry)
+        data = check.new_file(long_script(draw), geometry)
         if draw.randrange(3) == 0:
             check.damage(data, draw)
         elif draw.randrange(3) == 0:

@@ -58,7 +58,7 @@ class Script:
         self.new = bytes(file.bytes)
         self.calls = device.due_calls(cache, file, lines)
         self.replies = replies_among(self.calls)
-        self.status = int(any(reply.startswith(b"refused") for reply in self.replies))
+        self.status = oracle.status_of(self.replies)
         self.errors = ""
         self.left = bytes(file.bytes)
         self.env = {}
@@ -131,7 +131,7 @@ class Bench:
         name = f"{name}, call {fails} fails, {stores} bytes stored"
         due = Broken(script, self.path, self.library, fails, stores)
         self.run_all(name, due)
-        cache = runs.new_cache(GEOMETRY)
+        cache = oracle.Cache(GEOMETRY)
         count = len(due.replies) - 1
         for line in due.lines[:count]:
             cache.answer(line)
@@ -155,7 +155,7 @@ def is_answered_at_once(program):
         replies.append(process.stdout.readline())
     process.stdin.close()
     process.stdout.close()
-    wanted, _ = runs.answers(runs.new_cache(oracle.Geometry()), ROWS["row 1"])
+    _, wanted = oracle.answers(ROWS["row 1"])
     return process.wait() == 0 and replies == [reply + b"\n" for reply in wanted]
 
 
