@@ -56,10 +56,11 @@ import pathlib
 import struct
 import sys
 
-sys.path.insert(0, str(pathlib.Path(__file__).resolve().parent.parent / "examples"))
+for folder in "examples", "tests":
+    sys.path.insert(0, str(pathlib.Path(__file__).resolve().parent.parent / folder))
 from define_lines import class_files  # noqa: E402 (the examples stand beside)
+from harness import VERSION_52, stream_of, u2, u4, utf8  # noqa: E402
 
-VERSION_52 = bytes.fromhex("cafebabe00000034")
 LONG = 65_535
 LAST_INDEX = 65_534
 EQUAL_SLOTS = 20
@@ -68,14 +69,6 @@ FEW_MEMBERS = 32
 
 PUBLIC, SUPER = 0x0001, 0x0020
 STATIC, NATIVE = 0x0008, 0x0100
-
-
-def u2(number):
-    return struct.pack(">H", number)
-
-
-def u4(number):
-    return struct.pack(">I", number)
 
 
 class ClassFile:
@@ -89,9 +82,9 @@ class ClassFile:
         self.this_class = self.class_named(b"A")
         self.super_class = self.class_named(b"java/lang/Object")
 
-    def add(self, tag, body):
+    def add(self, constant):
         """The index of a new constant."""
-        self.constants.append(bytes([tag]) + body)
+        self.constants.append(constant)
         return len(self.constants)
 
     def room(self):
@@ -99,13 +92,13 @@ class ClassFile:
         return LAST_INDEX - len(self.constants)
 
     def utf8(self, text):
-        return self.add(1, u2(len(text)) + text)
+        return self.add(utf8(text))
 
     def class_named(self, name):
-        return self.add(7, u2(self.utf8(name)))
+        return self.add(b"\x07" + u2(self.utf8(name)))
 
     def name_and_type(self, name, descriptor):
-        return self.add(12, u2(self.utf8(name)) + u2(self.utf8(descriptor)))
+        return self.add(b"\x0c" + u2(self.utf8(name)) + u2(self.utf8(descriptor)))
 
     def bytes(self):
         def counted(items):
@@ -248,7 +241,7 @@ def references():
     descriptor = b"(L" + b"a" * (LONG - 5) + b";)V"
     target = made.name_and_type(b"a" * LONG, descriptor)
     for i in range(made.room()):
-        made.add(10 + i % 2, u2(made.this_class) + u2(target))
+        made.add(bytes([10 + i % 2]) + u2(made.this_class) + u2(target))
     return [made.bytes()]
 
 
@@ -267,14 +260,14 @@ def dimensions():
 def dynamic():
     made = ClassFile()
     attribute = made.utf8(b"BootstrapMethods")
-    method = made.add(10, u2(made.this_class) + u2(made.name_and_type(b"b", b"()V")))
-    handle = made.add(15, bytes([6]) + u2(method))
+    method = made.add(b"\x0a" + u2(made.this_class) + u2(made.name_and_type(b"b", b"()V")))
+    handle = made.add(bytes([15, 6]) + u2(method))
     rows = 65_535
     content = u2(rows) + (u2(handle) + u2(0)) * rows
     made.attributes.append(u2(attribute) + u4(len(content)) + content)
     call = made.name_and_type(b"c", b"()V")
     for _ in range(made.room()):
-        made.add(18, u2(rows - 1) + u2(call))
+        made.add(b"\x12" + u2(rows - 1) + u2(call))
     return [made.bytes()]
 
 
@@ -315,17 +308,12 @@ def found(only_52, paths):
                 yield data
 
 
-def write(classes):
-    for data in classes:
-        sys.stdout.buffer.write(u4(len(data)) + data)
-
-
 def main(words):
     if len(words) == 2 and words[0] == "--hostile" and words[1] in HOSTILE:
-        write(HOSTILE[words[1]]())
+        sys.stdout.buffer.write(stream_of(HOSTILE[words[1]]()))
     elif words and not words[-1].startswith("--"):
         only_52 = words[0] == "--only-52"
-        write(found(only_52, words[1:] if only_52 else words))
+        sys.stdout.buffer.write(stream_of(found(only_52, words[1:] if only_52 else words)))
     else:
         sys.exit(__doc__)
 

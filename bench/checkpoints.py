@@ -11,19 +11,23 @@ The checkpoints and the device calls are counted from docs/REGION.md: a group of
 two slots and four calls, a checkpoint six calls.
 """
 import os
-import subprocess
 import sys
 import tempfile
 import time
+
+sys.path.insert(0, os.path.join(os.path.dirname(os.path.abspath(__file__)), "..", "tests"))
+import harness
+import oracle
+import region
 
 SLOTS = [4_096, 65_536]
 LIVE = [0, 100, 1_000, 2_000]
 
 
-def run(program, words, lines=None):
-    text = b"".join(line + b"\n" for line in lines or [])
-    done = subprocess.run([program, *words], input=text, stdout=subprocess.PIPE, check=True)
-    return done.stdout.count(b"ok")
+def run(program, words, lines=()):
+    """How many replies are `ok`."""
+    out, _, _ = harness.run(program, words, lines, seconds=None)
+    return sum(reply.startswith(b"ok") for reply in out)
 
 
 def seconds(program, path, slots, live, commands):
@@ -44,9 +48,9 @@ def seconds(program, path, slots, live, commands):
 
 def checkpoints(slots, live, commands):
     """How many there are, and their device calls' share of all."""
-    count, end, rows = 0, 1, 0
+    count, end, rows, sizes = 0, 1, 0, oracle.Geometry(slots=slots)
     for number in range(live + commands):
-        if end + 1 > slots - 1:
+        if not region.has_room(sizes, end, 1):
             end = 1 + rows
             count += number >= live
         end += 2

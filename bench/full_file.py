@@ -21,15 +21,12 @@ import time
 sys.path.insert(0, os.path.join(os.path.dirname(os.path.abspath(__file__)), "..", "tests"))
 import oracle
 import region
+from harness import VERSION_52, utf8
 
 SIZES = oracle.Geometry(12, 256, 65_536)
 CLASSES = 127
 WORDS = SIZES.root_words // CLASSES
 METHODS = 200
-
-
-def utf8(text):
-    return struct.pack(">BH", oracle.UTF8, len(text)) + text
 
 
 def reference(tag, *numbers):
@@ -54,7 +51,7 @@ def class_file(name, filling):
         struct.pack(">HHHHHI", 9, 6 + method, descriptor, 1, code, len(code_content)) + code_content
         for method in range(METHODS))
     return b"".join([
-        b"\xca\xfe\xba\xbe\0\0\0\x34", struct.pack(">H", len(pool) + 1), *pool,
+        VERSION_52, struct.pack(">H", len(pool) + 1), *pool,
         struct.pack(">HHHHH", 0x21, first + 1, first, 0, 0), struct.pack(">H", METHODS), methods,
         struct.pack(">HHI", 1, own, filling), bytes(filling),
     ])

@@ -6,8 +6,12 @@ input, in turn, each with a number of its own after its name, so that all names 
     bench/many_classes.py COUNT
 """
 import itertools
+import os
 import struct
 import sys
+
+sys.path.insert(0, os.path.join(os.path.dirname(os.path.abspath(__file__)), "..", "tests"))
+import harness
 
 UTF8, CLASS = 1, 7
 LENGTHS = {3: 4, 4: 4, 5: 8, 6: 8, 7: 2, 8: 2, 9: 4, 10: 4, 11: 4, 12: 4, 15: 3, 16: 2, 17: 4,
@@ -48,8 +52,7 @@ def renamed(data, place, number):
 def main(count):
     few = [(data, name_place(data)) for data in classes_in(sys.stdin.buffer.read())]
     for number, (data, place) in enumerate(itertools.islice(itertools.cycle(few), count)):
-        made = renamed(data, place, number)
-        sys.stdout.buffer.write(struct.pack(">I", len(made)) + made)
+        sys.stdout.buffer.write(harness.stream_of([renamed(data, place, number)]))
 
 
 if __name__ == "__main__":

@@ -11,29 +11,21 @@ and after, and how many moves there were and how long a tighten took.
 """
 import os
 import random
-import subprocess
 import sys
 import tempfile
 import time
 
-HEAD = bytes.fromhex("cafebabe000000340006")
-TAIL = bytes.fromhex("002100010003" "000000000000" "0001" "0005")
-OBJECT = bytes.fromhex("07000401" "0010") + b"java/lang/Object" + bytes.fromhex("010001") + b"X"
+sys.path.insert(0, os.path.join(os.path.dirname(os.path.abspath(__file__)), "..", "tests"))
+import harness
+
 FULL = (b"--top", b"8", b"--roots", b"256", b"--slots", b"65536")
 
 
-def class_of(number, zeros):
-    """A class with an attribute of this many zeros."""
-    name = b"C%d" % number
-    return (HEAD + b"\x07\x00\x02\x01" + len(name).to_bytes(2, "big") + name + OBJECT + TAIL
-            + zeros.to_bytes(4, "big") + bytes(zeros))
-
-
 def run(program, words, lines=()):
-    text = b"".join(line + b"\n" for line in lines)
+    """The lines of output, and the seconds that the run took."""
     begin = time.monotonic()
-    ran = subprocess.run([program, *words], input=text, stdout=subprocess.PIPE, check=False)
-    return ran.stdout.split(b"\n")[:-1], time.monotonic() - begin
+    out, _, _ = harness.run(program, words, lines, seconds=None)
+    return out, time.monotonic() - begin
 
 
 def moved(program, path, loaders):
@@ -51,7 +43,8 @@ def main(program, classes=20_000, loaders=200, folder=None):
         lines = [b"loader l%d" % one for one in range(loaders)]
         for one in range(classes):
             zeros = min(40_000, int(draw.expovariate(1 / 2500)))
-            lines.append(b"define l%d %s" % (one % loaders, class_of(one, zeros).hex().encode()))
+            lines.append(harness.define(b"l%d" % (one % loaders),
+                                        harness.padded(b"C%d" % one, zeros)))
         replies, _ = run(program, ["apply", path], lines)
         stored = sum(reply.startswith(b"ok") for reply in replies)
         listed, _ = run(program, ["list", path])

@@ -11,8 +11,8 @@ import subprocess
 import sys
 from pathlib import Path
 
+import harness
 import oracle
-import runs
 
 TOP = Path(__file__).resolve().parent.parent
 NUMBERS = {"bool": "bool", **{f"u{bits}": f"uint{bits}_t" for bits in (8, 16, 32, 64)},
@@ -110,7 +110,7 @@ def exported(archive):
 
 
 def compare(archive):
-    checks = runs.Checks()
+    checks = harness.Checks()
     (functions, structs), (written, members) = header(), sources()
     names = exported(archive)
     checks.check("the header's functions are exported, and no others", set(functions) == names,

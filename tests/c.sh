@@ -88,8 +88,7 @@ if has valgrind "every call under it"; then
         --suppressions=tests/c/helgrind.supp "$work/every_call"
 fi
 
-library=$work/calls.so
-"$cc" -O2 -Wall -Werror -shared -fPIC -o "$library" tests/calls.c
+library=$(compile_library calls)
 check_last "tests/calls.c is compiled"
 
 # ---- files of version 1, which are upgraded as the program upgrades them
@@ -124,8 +123,8 @@ done
 script=$work/script
 build script tests/c/script.c "$cc" -O1
 seed=${SEED:-$RANDOM}
-passes "random scripts" python3 tests/threads.py "$script" "$library" "${SCRIPTS:-200}" "$seed"
-passes "a device that fails at each call" python3 tests/device.py "$script" "$library"
+passes "random scripts" python3 tests/threads.py "$script" "${SCRIPTS:-200}" "$seed"
+passes "a device that fails at each call" python3 tests/device.py "$script"
 passes "files that can't grow" python3 tests/full.py "$script" "$quick"
 passes "scripts that are killed" python3 tests/kill.py "$script" 20 "$seed"
 
@@ -138,7 +137,7 @@ passes "eight threads, watched" python3 tests/soak.py "$CMCACHE" "$work/soak_thr
 passes "sixteen threads that are killed" \
     python3 tests/soak_kill.py "$CMCACHE" "$work/soak" 16 "${KILLS:-50}" "$seed"
 passes "sixteen threads on a machine that stops" \
-    python3 tests/soak_stop.py "$CMCACHE" "$work/soak" "$library" 16 "${MOMENTS:-50}" "$seed"
+    python3 tests/soak_stop.py "$CMCACHE" "$work/soak" 16 "${MOMENTS:-50}" "$seed"
 
 # ---- the examples, with classes that the machine's Java compiler writes
 
@@ -185,7 +184,7 @@ printf '%s\n' 'loader app' "define app $a" 'loader ext' "define ext $a" 'find ap
     'find ext A' >"$work/commands"
 # sweep SCRIPT WORD..
 sweep() {
-    WORK=$work tests/refused_memory.py "$script" "$library" any "${@:2}" <"$1"
+    WORK=$work tests/refused_memory.py "$script" any "${@:2}" <"$1"
     check_last "a refused allocation: ${*:2}"
 }
 beside sweep "$work/commands" apply FILE

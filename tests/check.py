@@ -13,17 +13,13 @@ import multiprocessing
 import os
 import random
 import struct
-import subprocess
 import sys
 
+import harness
 import oracle
 import region
-import runs
 
-A = (
-    "cafebabe0000003400050700020100014107000401"
-    "00106a6176612f6c616e672f4f626a6563740021000100030000000000000000")
-B = A.replace("0141", "0142")
+A, B = (harness.class_a(name).hex() for name in (b"A", b"B"))
 SCRIPTS = [
     "",
     "loader a\n",
@@ -31,7 +27,7 @@ SCRIPTS = [
     f"loader a\ndefine a {A}\ndefine a {B}\nunload a\nloader a\ndefine a {A}\n",
     f"loader a\nloader b\ndefine a {A}\ndefine b {A}\nloader c\nunloadall c a\ndefine b {B}\n",
     # The second class moves to a smaller chunk.
-    f"loader a\ndefine a {A}\ndefine a {runs.padded(b'B', 864).hex()}\ntighten a\n",
+    f"loader a\ndefine a {A}\ndefine a {harness.padded(b'B', 864).hex()}\ntighten a\n",
     # Loaders of long names take two slots.
     f"loader {'m' * 49}\nloader {'n' * 48}\nloader {'n' * 96}\ndefine {'m' * 49} {A}\n",
 ]
@@ -141,74 +137,62 @@ def changes():
 
 
 def check_changed(program, path, some):
-    """Checks the file with each of some changes by itself; returns how many were right, and which
-    weren't."""
+    """Checks the file with each of some changes by itself."""
     data = whole_file()
-    with open(path, "wb") as file:
-        file.write(data)
-    wrong = []
+    harness.write(path, data)
+    checks = harness.Checks()
     with open(path, "r+b", buffering=0) as file:
         for at, value in some:
             was, data[at] = data[at], value
             os.pwrite(file.fileno(), bytes([value]), at)
             words, status = wanted(data)
-            ran = subprocess.run([program, "check", path], capture_output=True, check=False)
+            ran = harness.ran([program, "check", path])
             is_same = os.pread(file.fileno(), len(data) + 1, 0) == data
-            if ((ran.stdout, ran.returncode, ran.stderr) != (words["check"], status, b"")
-                    or not is_same):
-                wrong.append(f"check with {value:#x} at {at}: {ran.stdout!r}, "
-                             f"status {ran.returncode}; wanted {words['check']}")
+            checks.check(f"check with {value:#x} at {at}",
+                         ran == (words["check"], status, "") and is_same,
+                         f"{ran}; wanted {words['check']}")
             data[at] = was
             os.pwrite(file.fileno(), bytes([was]), at)
     os.remove(path)
-    return len(some) - len(wrong), wrong
+    return checks
 
 
-def each_byte(program, folder):
+def each_byte(checks, program, folder):
     """As check_changed, for all changes, on all processors."""
     if wanted(whole_file())[0]["check"] != WHOLE:
-        return 0, ["the file of each kind of entry isn't sound"]
+        checks.check("the file of each kind of entry is sound", False)
+        return
     count = 4 * os.cpu_count()
     every = list(changes())
     parts = [(program, os.path.join(folder, f"changed-{part}"), every[part::count])
              for part in range(count)]
     with multiprocessing.Pool() as pool:
-        found = pool.starmap(check_changed, parts, chunksize=1)
-    return sum(right for right, _ in found), [line for _, wrong in found for line in wrong]
+        for part in pool.starmap(check_changed, parts, chunksize=1):
+            checks.add(part)
 
 
-def drawn(program, path, count, seed):
-    """Checks and lists this many files, most of them with some bytes changed; returns how many were
-    right, and which weren't."""
+def drawn(checks, program, path, count, seed):
+    """Checks and lists this many files, most of them with some bytes changed."""
     draw = random.Random(seed)
-    passed, wrong = 0, []
     for number in range(count):
         data = new_file(SCRIPTS[number % len(SCRIPTS)])
         if number >= len(SCRIPTS):
             damage(data, draw)
-        with open(path, "wb") as file:
-            file.write(data)
+        harness.write(path, data)
         words, status = wanted(data)
         for verb, said in words.items():
-            ran = subprocess.run([program, verb, path], capture_output=True, check=False)
-            with open(path, "rb") as file:
-                is_same = file.read() == data
-            if (ran.stdout, ran.returncode, ran.stderr) == (said, status, b"") and is_same:
-                passed += 1
-            else:
-                wrong.append(f"{verb} of file {number}, seed {seed}: {ran.stdout!r}, "
-                             f"status {ran.returncode}; wanted {said}, {status}")
-    return passed, wrong
+            ran = harness.ran([program, verb, path])
+            checks.check(f"{verb} of file {number}, seed {seed}",
+                         ran == (said, status, "") and harness.read(path) == data,
+                         f"{ran}; wanted {said}, {status}")
 
 
 def main(program, count, seed):
-    folder = os.environ["WORK"]
-    passed, wrong = drawn(program, os.path.join(folder, "checked"), count, seed)
-    changed, more = each_byte(program, folder)
-    for line in wrong + more:
-        print(f"FAILED: {line}")
-    print(f"{passed + changed} passed, {len(wrong + more)} failed")
-    return bool(wrong or more)
+    checks = harness.Checks()
+    with harness.new_folder() as folder:
+        drawn(checks, program, os.path.join(folder, "checked"), count, seed)
+        each_byte(checks, program, folder)
+    return checks.finish()
 
 
 if __name__ == "__main__":

@@ -5,9 +5,4 @@ set -u
 cd "$(dirname "$0")/.." || exit 1
 . tests/lib.sh
 
-library=$work/calls.so
-if ! cc -O2 -Wall -Werror -shared -fPIC -o "$library" tests/calls.c; then
-    echo "0 passed, 1 failed"
-    exit 1
-fi
-WORK=$work python3 tests/device.py "$(executable)" "$library"
+WORK=$work python3 tests/device.py "$(executable)"

@@ -10,6 +10,8 @@ import re
 import sys
 from pathlib import Path
 
+import harness
+
 TOP = Path(".")
 PROOFS = TOP / "docs/PROOFS.md"
 DOCUMENTS = [TOP / "README.md", *sorted((TOP / "docs").glob("*.md"))]
@@ -257,19 +259,9 @@ def limits():
 
 
 def main():
-    passed = failed = 0
-    for look in (links, map_rows, paths, contracts, planted, example, limits):
-        looked = list(look())
-        if not looked:
-            failed += 1
-            print(f"FAILED: nothing to check: {look.__doc__}")
-        for is_there, what in looked:
-            passed += is_there
-            failed += not is_there
-            if not is_there:
-                print(f"FAILED: {what}")
-    print(f"{passed} passed, {failed} failed")
-    return failed > 0
+    checks = harness.Checks()
+    checks.check_all([links, map_rows, paths, contracts, planted, example, limits])
+    return checks.finish()
 
 
 if __name__ == "__main__":

@@ -13,6 +13,7 @@ import os
 import subprocess
 import sys
 
+import harness
 import oracle
 import region
 import runs
@@ -36,7 +37,7 @@ SCRIPT = [
 def run_out(checks, name, program, path, cache, cause, limit=None):
     """Runs the script until there is no more room, and returns the remaining lines. At least one
     command is stored."""
-    replies, status, told = runs.run(program, ["apply", path], SCRIPT, limit=limit)
+    replies, status, told = harness.run(program, ["apply", path], SCRIPT, limit=limit)
     wanted = [cache.answer(line) for line in SCRIPT[:len(replies) - 1]]
     wanted.append(b"unsure %d" % (cache.number + 1))
     good = ((replies, status, told) == (wanted, 3, f"cmcache: {path}: {cause}\n")
@@ -48,15 +49,10 @@ def run_out(checks, name, program, path, cache, cause, limit=None):
 def go_on(checks, name, program, path, cache, rest):
     runs.settle(checks, f"{name}: the file", path, cache, rest[0])
     runs.look_up(checks, f"{name}: the classes", program, path, cache)
-    ran, wanted = runs.run(program, ["apply", path], rest), runs.answers(cache, rest)
+    ran, wanted = harness.run(program, ["apply", path], rest), runs.answers(cache, rest)
     checks.check(f"{name}: what is left, with room", ran == (*wanted, ""),
                  f"{ran}, wanted {wanted}")
     runs.settle(checks, f"{name}: the file after it", path, cache, None)
-
-
-def new_file(path, geometry):
-    with open(path, "wb") as file:
-        file.write(region.Region(geometry).bytes)
 
 
 def under_limits(checks, program, folder):
@@ -65,17 +61,17 @@ def under_limits(checks, program, folder):
     for geometry, limit in [(SMALL, 36), (SMALL, 37), (SMALL, 44), (SMALL, 45), (SMALL, 51),
                             (oracle.Geometry(), 600)]:
         path, cache = f"{folder}/limited", oracle.Cache(geometry)
-        new_file(path, geometry)
+        harness.write(path, region.Region(geometry).bytes)
         name = f"files of {limit} KiB"
         rest = run_out(checks, name, program, path, cache, TOO_LARGE, limit)
         go_on(checks, name, program, path, cache, rest)
     path = f"{folder}/new"
     for limit in [0, 1, 300, 515]:
-        ran = runs.run(program, ["format", path], limit=limit)
+        ran = harness.run(program, ["format", path], limit=limit)
         good = (ran == ([b"device"], 3, f"cmcache: {path}: {TOO_LARGE}\n")
                 and not os.path.exists(path))
         checks.check(f"format where files have {limit} KiB", good, f"{ran}")
-    ran = runs.run(program, ["format", path], limit=516)
+    ran = harness.run(program, ["format", path], limit=516)
     checks.check("format where files have 516 KiB", ran == ([b"ok"], 0, ""), f"{ran}")
 
 
@@ -95,24 +91,24 @@ def on_full_disks(checks, program, folder):
                            (oracle.Geometry(), 600)]:
         with mounted(f"{folder}/full", size) as small:
             path, cache = f"{small}/cache", oracle.Cache(geometry)
-            new_file(path, geometry)
+            harness.write(path, region.Region(geometry).bytes)
             name = f"a disk of {size} KiB"
             rest = run_out(checks, name, program, path, cache, NO_SPACE)
             subprocess.run(["mount", "-o", f"remount,size={4 * size}k", small], check=True)
             go_on(checks, name, program, path, cache, rest)
     with mounted(f"{folder}/full", 300) as small:
         path = f"{small}/cache"
-        ran = runs.run(program, ["format", path])
+        ran = harness.run(program, ["format", path])
         good = (ran == ([b"device"], 3, f"cmcache: {path}: {NO_SPACE}\n")
                 and not os.path.exists(path))
         checks.check("format on a full disk", good, f"{ran}")
         subprocess.run(["mount", "-o", "remount,size=600k", small], check=True)
-        ran = runs.run(program, ["format", path])
+        ran = harness.run(program, ["format", path])
         checks.check("format, with room", ran == ([b"ok"], 0, ""), f"{ran}")
 
 
 def main(program, folder, *how):
-    checks = runs.Checks()
+    checks = harness.Checks()
     under_limits(checks, program, folder)
     if how:
         on_full_disks(checks, program, folder)

@@ -3,40 +3,28 @@
 before and inside each call, files with one byte changed, and class files that are cut or refer to
 nothing.
 
-    tests/hostile.py CMCACHE CM_SIMULATE CALLS_LIBRARY STEP
+    tests/hostile.py CMCACHE CM_SIMULATE STEP
 
-Every STEPth loader of the long script is stopped; the library is made of tests/calls.c. What a
-crash may leave isn't computed here: an opening has to give some beginning of the commands, no
-shorter than what was acknowledged, and the classes that these commands make.
+Every STEPth loader of the long script is stopped. What a crash may leave isn't computed here: an
+opening has to give some beginning of the commands, no shorter than what was acknowledged, and the
+classes that these commands make.
 """
 import itertools
 import os
 import subprocess
 import sys
-import tempfile
 
 import check
-import runs
+import harness
+from harness import define, loader
 
-A = bytes.fromhex(
-    "cafebabe000000340005070002010001410700040100106a6176612f6c616e672f4f626a65637400210001"
-    "00030000000000000000")
+A = harness.class_a()
 USUAL = b"geometry 8 64 4096"
 ONE_ROOT = b"geometry 3 1 256"
 
 
-def loader(name):
-    return b"loader " + name
-
-
-def define(name, data):
-    return b"define %s %s" % (name, data.hex().encode())
-
-
 def simulate(program, lines):
-    ran = subprocess.run([program], input=b"".join(line + b"\n" for line in lines),
-                         stdout=subprocess.PIPE, stderr=subprocess.PIPE, check=False)
-    return ran.stdout.decode().split("\n")[:-1], ran.returncode, ran.stderr.decode()
+    return harness.simulated(program, harness.text_of(lines))
 
 
 # ---- a device that fails
@@ -79,16 +67,6 @@ def check_failing_device(checks, run):
             checks.check(f"call {call} fails after {stored} bytes", got == (want, 0, ""), got)
 
 
-class Quiet:
-    """Counts what passed."""
-
-    def __init__(self):
-        self.passed = 0
-
-    def check(self, _, holds, __):
-        self.passed += holds
-
-
 def check_lazy_worlds(checks, simulator):
     """A world that gives the same reply to each device call passes no row of that table."""
     for reply in "working", "idle":
@@ -99,7 +77,7 @@ def check_lazy_worlds(checks, simulator):
                        for line, due in zip(lines[1:], replies)]
             return replies, status, told
 
-        quiet = Quiet()
+        quiet = harness.Checks(shown=0)
         check_failing_device(quiet, lazy)
         checks.check(f"a world that only ever replies {reply}", quiet.passed == 0, quiet.passed)
 
@@ -128,7 +106,7 @@ def one_by_one(commands, calls):
     return events
 
 
-P = runs.padded
+P = harness.padded
 FILL = 1 << 18  # no less than a root of the usual size and a group
 FILLS = {
     "nothing": b"",
@@ -296,10 +274,9 @@ CHANGES = [
 
 
 def new_file(program, path, lines):
-    runs.run(program, ["format", path])
-    got = runs.run(program, ["apply", path], lines)
-    with open(path, "rb") as file:
-        return got, file.read()
+    harness.run(program, ["format", path])
+    got = harness.run(program, ["apply", path], lines)
+    return got, harness.read(path)
 
 
 def check_changed_files(checks, program, folder):
@@ -315,13 +292,10 @@ def check_changed_files(checks, program, folder):
             at, new = change
             data[at:at + len(new)] = new
         for command in "check", "list", "apply", "trim":
-            with open(changed, "wb") as file:
-                file.write(data)
-            got = runs.run(program, [command, changed], [loader(b"x")] * (command == "apply"))
-            with open(changed, "rb") as file:
-                same = file.read() == data
+            harness.write(changed, data)
+            got = harness.run(program, [command, changed], [loader(b"x")] * (command == "apply"))
             checks.check(f"{command} of a file with {change!r:.60}",
-                         got == ([line.encode()], 1, "") and same, got)
+                         got == ([line.encode()], 1, "") and harness.read(changed) == data, got)
 
 
 # ---- files that no short script leaves
@@ -330,20 +304,19 @@ def check_whole_file(checks, program, folder):
     """Half 1 counts, half 0 counted before it; three live rows, two groups, an unload and a move;
     two of the loaders have names that take two slots."""
     path = os.path.join(folder, "halves")
-    with open(path, "wb") as file:
-        file.write(check.whole_file())
-    got = runs.run(program, ["list", path])
+    harness.write(path, check.whole_file())
+    got = harness.run(program, ["list", path])
     checks.check("a list of half 1", got == (
         [b"loader a", b"class A words 16 root 0 at 256", b"class B words 16 root 0 at 272",
          b"loader b", b"class A words 16 root 0 at 128", loader(b"m" * 49), loader(b"n" * 96)], 0,
         ""), got)
-    got = runs.run(program, ["apply", path],
+    got = harness.run(program, ["apply", path],
                    [b"find a B", loader(b"c"), define(b"c", A), b"unload b", b"tighten a"])
     checks.check("half 1 is used further", got == (
         [b"class B flags 0021 super java/lang/Object words 16", b"ok 14", b"ok 15 A", b"ok 16",
          b"ok 17"], 0, ""), got)
     # Both records of `a` fit into one block, and what `b` left is free.
-    got = runs.run(program, ["list", path])
+    got = harness.run(program, ["list", path])
     checks.check("what it holds then", got == (
         [b"loader a", b"class A words 16 root 0 at 128", b"class B words 16 root 0 at 144",
          b"loader c", b"class A words 16 root 0 at 0", loader(b"m" * 49), loader(b"n" * 96)], 0,
@@ -355,20 +328,19 @@ def check_odd_files(checks, program, folder):
     _, whole = new_file(program, path, SCRIPT)
     nameless = bytearray(whole)
     nameless[at_slot(2, 2)] = nameless[at_slot(2, 16)] = 0
-    with open(path, "wb") as file:
-        file.write(nameless)
-    got = runs.run(program, ["check", path])
+    harness.write(path, nameless)
+    got = harness.run(program, ["check", path])
     checks.check("a loader's name of no bytes", got == ([b"damaged 6 2"], 1, ""), got)
 
     # What stands after the last root that the sizes allow is ignored, whole roots too.
-    runs.run(program, ["format", path + "1", "--top", "3", "--roots", "1", "--slots", "256"])
-    runs.run(program, ["apply", path + "1"], [loader(b"a"), define(b"a", A)])
+    harness.run(program, ["format", path + "1", "--top", "3", "--roots", "1", "--slots", "256"])
+    harness.run(program, ["apply", path + "1"], [loader(b"a"), define(b"a", A)])
     with open(path + "1", "ab") as file:
         file.write(b"\xa5" * 20000)
-    got = runs.run(program, ["check", path + "1"])
+    got = harness.run(program, ["check", path + "1"])
     checks.check("bytes after the last root",
                  got == ([b"ok loaders 1 classes 1 chunks 1 number 2"], 0, ""), got)
-    got = runs.run(program, ["apply", path + "1"], [b"find a A", define(b"a", P(b"B", 8032))])
+    got = harness.run(program, ["apply", path + "1"], [b"find a A", define(b"a", P(b"B", 8032))])
     checks.check("they are no root", got == (
         [b"class A flags 0021 super java/lang/Object words 16", b"refused 6 region full"], 1, ""),
                  got)
@@ -376,18 +348,17 @@ def check_odd_files(checks, program, folder):
 
 # ---- a file that can't be read whole
 
-def check_failing_reads(checks, program, library, folder):
+def check_failing_reads(checks, program, folder):
     """Each read of the file fails in turn: it is the device's fault, and nothing takes the place of
     what wasn't read."""
-    path = os.path.join(folder, "unread")
+    path, library = os.path.join(folder, "unread"), harness.library("calls")
     _, whole = new_file(program, path, SCRIPT)
     for command, line in (("check", b"ok loaders 1 classes 2 chunks 1 number 3"),
                           ("list", b"loader a"), ("apply", b"none"), ("trim", b"roots 1")):
         for failing in itertools.count(1):
-            got = runs.run(program, [command, path], [b"find a C"] * (command == "apply"),
+            got = harness.run(program, [command, path], [b"find a C"] * (command == "apply"),
                            env={"LD_PRELOAD": library, "READ": str(failing)})
-            with open(path, "rb") as file:
-                same = file.read() == whole
+            same = harness.read(path) == whole
             if got[:2] != ([b"device"], 3) or not same or failing > 1000:
                 break
         checks.check(f"{command} with a read that fails",
@@ -414,7 +385,7 @@ BAD_CLASSES = (
 def check_bad_classes(checks, program):
     lines = [loader(b"app")] + [define(b"app", data) for data, _ in BAD_CLASSES]
     want = [b"ok 1"] + [b"refused 14 " + text.encode() for _, text in BAD_CLASSES]
-    got = runs.run(program, ["apply", "--memory"], lines)
+    got = harness.run(program, ["apply", "--memory"], lines)
     checks.check("classes that are cut or lead nowhere", got == (want, 1, ""),
                  [pair for pair in zip(got[0], want) if pair[0] != pair[1]][:3])
 
@@ -435,7 +406,7 @@ def check_examples(checks, program, folder):
                                       define(b"b", A)])
     checks.check("a Utf8 of 65,535 bytes", got == ([b"ok 1", b"ok 2 A", b"ok 3", b"ok 4 A"], 0, ""),
                  got)
-    got = runs.run(program, ["list", path])
+    got = harness.run(program, ["list", path])
     # 8,209 words need a chunk of order 7, which has 16,384.
     checks.check("its place", got == ([b"loader a", b"class A words 8209 root 0 at 0", b"loader b",
                                        b"class A words 16 root 0 at 16384"], 0, ""), got)
@@ -445,13 +416,13 @@ def check_examples(checks, program, folder):
                                       define(b"a", A)])
     checks.check("two loaders", got == ([b"ok 1", b"ok 2", b"ok 3 A", b"ok 4 A",
                                          b"refused 4 class exists"], 1, ""), got)
-    got = runs.run(program, ["list", path])
+    got = harness.run(program, ["list", path])
     checks.check("their list", got == ([b"loader a", b"class A words 16 root 0 at 0", b"loader b",
                                         b"class A words 16 root 0 at 128"], 0, ""), got)
-    got = runs.run(program, ["check", path])
+    got = harness.run(program, ["check", path])
     checks.check("their check", got == ([b"ok loaders 2 classes 2 chunks 2 number 4"], 0, ""), got)
 
-    got = runs.run(program, ["apply", "--memory"],
+    got = harness.run(program, ["apply", "--memory"],
                    [loader(b"a"), define(b"a", A), b"unload a", loader(b"a"),
                     define(b"a", P(b"A", 0)), b"find a A"])
     checks.check("a loader made again",
@@ -463,7 +434,7 @@ def check_examples(checks, program, folder):
                                       define(b"a", P(b"B", 864)), b"tighten a", b"tighten a"])
     checks.check("a tail that moves", got == ([b"ok 1", b"ok 2 A", b"ok 3 B", b"ok 4",
                                                b"refused 8 no move"], 1, ""), got)
-    got = runs.run(program, ["list", path])
+    got = harness.run(program, ["list", path])
     checks.check("where it lies", got == ([b"loader a", b"class A words 20 root 0 at 0",
                                            b"class B words 128 root 0 at 128"], 0, ""), got)
 
@@ -478,18 +449,17 @@ def check_examples(checks, program, folder):
     entry = bytes.fromhex("0015020000000000" "0200000000000000" "0100000000000000").ljust(64, b"\0")
     checks.check("their entry", data[4096 + 640:4096 + 704] == entry, data[4096 + 640:4096 + 704])
     path = os.path.join(folder, "by_two")
-    runs.run(program, ["format", path])
-    got = runs.run(program, ["apply", path, "--workers", "2"], lines)
-    with open(path, "rb") as file:
-        checks.check("by two workers", got == (wanted, 1, "") and file.read() == data, got)
+    harness.run(program, ["format", path])
+    got = harness.run(program, ["apply", path, "--workers", "2"], lines)
+    checks.check("by two workers", got == (wanted, 1, "") and harness.read(path) == data, got)
 
     path = os.path.join(folder, "sizes")
-    runs.run(program, ["format", path])
+    harness.run(program, ["format", path])
     sizes = [os.path.getsize(path)]
-    runs.run(program, ["apply", path], [loader(b"a"), define(b"a", A)])
+    harness.run(program, ["apply", path], [loader(b"a"), define(b"a", A)])
     sizes.append(os.path.getsize(path))
-    runs.run(program, ["apply", path], [b"unload a"])
-    got = runs.run(program, ["trim", path])
+    harness.run(program, ["apply", path], [b"unload a"])
+    got = harness.run(program, ["trim", path])
     sizes.append(os.path.getsize(path))
     checks.check("sizes of a file", sizes == [528384, 790528, 528384], sizes)
     checks.check("a trim", got == ([b"roots 0"], 0, ""), got)
@@ -502,10 +472,10 @@ def check_many(checks, program, simulator, folder):
     names = [b"l%d" % number for number in range(1, 1501)]
     got, _ = new_file(program, path, [loader(name) for name in names])
     checks.check("1,500 loaders", got == ([b"ok %d" % number for number in range(1, 1501)], 0, ""))
-    got = runs.run(program, ["check", path])
+    got = harness.run(program, ["check", path])
     checks.check("their check",
                  got == ([b"ok loaders 1500 classes 0 chunks 0 number 1500"], 0, ""), got)
-    got = runs.run(program, ["apply", path], [loader(b"l1"), loader(b"next")])
+    got = harness.run(program, ["apply", path], [loader(b"l1"), loader(b"next")])
     checks.check("they are opened", got == ([b"refused 2 loader exists", b"ok 1501"], 1, ""), got)
 
     turns = [loader(b"a"), b"unload a"] * 1000
@@ -516,13 +486,13 @@ def check_many(checks, program, simulator, folder):
 
 def check_large(checks, program, simulator, folder):
     path = os.path.join(folder, "large")
-    runs.run(program, ["format", path, "--top", "12"])
-    got = runs.run(program, ["apply", path],
+    harness.run(program, ["format", path, "--top", "12"])
+    got = harness.run(program, ["apply", path],
                    [loader(b"a"), define(b"a", P(b"A", 8 * (70000 - 20))), b"find a A"])
     checks.check("a record of 70,000 words",
                  got == ([b"ok 1", b"ok 2 A",
                           b"class A flags 0021 super java/lang/Object words 70000"], 0, ""), got)
-    got = runs.run(program, ["apply", path], [b"find a A"])
+    got = harness.run(program, ["apply", path], [b"find a A"])
     checks.check("the same, opened again",
                  got == ([b"class A flags 0021 super java/lang/Object words 70000"], 0, ""), got)
     longest = 524288
@@ -544,22 +514,22 @@ def check_closed_streams(checks, program, folder):
         subprocess.run(["bash", "-c", f'exec {closed}>&-; exec "$0" apply "$1"', program, path],
                        input=b"find a A\nloader\nunload x\n", stdout=subprocess.DEVNULL,
                        stderr=subprocess.DEVNULL, check=False)
-        got = runs.run(program, ["check", path])
+        got = harness.run(program, ["check", path])
         checks.check(f"stream {closed} closed",
                      got == ([b"ok loaders 1 classes 2 chunks 1 number 3"], 0, ""), got)
 
 
-def main(program, simulator, library, step):
-    checks = runs.Checks()
+def main(program, simulator, step):
+    checks = harness.Checks()
     check_failing_device(checks, lambda lines: simulate(simulator, lines))
     check_lazy_worlds(checks, simulator)
     check_crashes(checks, simulator, step)
     check_bad_classes(checks, program)
-    with tempfile.TemporaryDirectory(dir=os.environ.get("WORK")) as folder:
+    with harness.new_folder() as folder:
         check_changed_files(checks, program, folder)
         check_whole_file(checks, program, folder)
         check_odd_files(checks, program, folder)
-        check_failing_reads(checks, program, library, folder)
+        check_failing_reads(checks, program, folder)
         check_examples(checks, program, folder)
         check_many(checks, program, simulator, folder)
         check_large(checks, program, simulator, folder)
@@ -568,4 +538,4 @@ def main(program, simulator, library, step):
 
 
 if __name__ == "__main__":
-    sys.exit(main(*sys.argv[1:4], int(sys.argv[4])))
+    sys.exit(main(*sys.argv[1:3], int(sys.argv[3])))

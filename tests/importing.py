@@ -1,42 +1,39 @@
 #!/usr/bin/env python3
 """Runs cm_import on classes, folders and jars, and looks at what the file holds.
 
-    tests/importing.py IMPORTER PROGRAM CALLS_LIBRARY KILLS SEED
+    tests/importing.py IMPORTER PROGRAM KILLS SEED
 """
 import os
 import random
 import re
-import struct
-import subprocess
 import sys
-import tempfile
 import time
 import zipfile
 
+import device_calls
+import harness
+import oracle
 import region
-import runs
 
-A_GROUP = 64
+A_GROUP = oracle.GROUP_SLOTS
 LINE = re.compile(rb"imported (\d+) there (\d+) skipped (\d+) refused (\d+) number (\d+)")
 
 
 def class_bytes(name, zeros=0):
     """A class of this name, with an attribute of this many zeros."""
-    name = name.encode()
-    head = runs.HEAD.replace(b"\x01\x00\x01A", b"\x01" + struct.pack(">H", len(name)) + name)
-    return head + runs.TAIL + zeros.to_bytes(4, "big") + bytes(zeros)
+    return harness.padded(name.encode(), zeros)
 
 
 def of_version(data, major):
-    return data[:6] + struct.pack(">H", major) + data[8:]
+    return data[:6] + harness.u2(major) + data[8:]
 
 
 class Bench:
     """The programs, a folder, and what passed."""
 
-    def __init__(self, importer, program, library, folder):
-        self.importer, self.program, self.library, self.folder = importer, program, library, folder
-        self.checks = runs.Checks()
+    def __init__(self, importer, program, folder):
+        self.importer, self.program, self.folder = importer, program, folder
+        self.checks = harness.Checks()
         self.count = 0
 
     def path(self, name):
@@ -46,8 +43,8 @@ class Bench:
         self.count += 1
         return self.path(f"cache{self.count}")
 
-    def run(self, *words, env=None):
-        return runs.run(self.importer, list(words), env=env)
+    def run(self, *words):
+        return harness.run(self.importer, words)
 
     def says(self, name, got, line, status, errors=()):
         """The run wrote this line and these parts of lines on standard error, a part each."""
@@ -64,7 +61,7 @@ class Bench:
         except (region.NotACache, region.Damaged) as verdict:
             return self.checks.check(name, False, str(verdict))
         found = sorted(state.get(loader, {}))
-        checked = runs.run(self.program, ["check", path])
+        checked = harness.run(self.program, ["check", path])
         return self.checks.check(
             name, found == sorted(n.encode() for n in names) and checked[1] == 0,
             f"{len(found)} classes, wanted {len(names)}; {checked}")
@@ -89,8 +86,7 @@ def make_folder(path, contents):
     for name, data in contents:
         place = f"{path}/{name}"
         os.makedirs(os.path.dirname(place), exist_ok=True)
-        with open(place, "wb") as file:
-            file.write(data)
+        harness.write(place, data)
 
 
 def usual(bench):
@@ -111,7 +107,7 @@ def usual(bench):
             got = bench.run(path, "app", source, "--new", "--workers", workers)
             bench.says(f"{source}, {workers} workers", got, line(300, number=301), 0)
             bench.holds(f"{source}, {workers} workers: the file", path, b"app", names)
-    contents_of = {open(path, "rb").read() for path in files}
+    contents_of = {harness.read(path) for path in files}
     bench.checks.check("the same bytes each time", len(contents_of) == 1, f"{len(contents_of)}")
     bench.says("once more", bench.run(files[0], "app", jar), line(0, there=300, number=301), 0)
     bench.says("another loader", bench.run(files[0], "ext", jar), line(300, number=602), 0)
@@ -121,7 +117,7 @@ def usual(bench):
     bench.holds("two files: the file", path, b"app", [names[1], names[2]])
     jars = bench.path("jars")
     make_jar(bench.path("b.jar"), contents[:10])
-    make_folder(jars, [("lib/b.jar", open(bench.path("b.jar"), "rb").read()),
+    make_folder(jars, [("lib/b.jar", harness.read(bench.path("b.jar"))),
                        ("Z.class", class_bytes("Z"))])
     path = bench.new_path()
     bench.says("jars in a folder", bench.run(path, "app", jars, "--new"), line(11, number=12), 0)
@@ -154,16 +150,14 @@ def not_imported(bench):
     got = bench.run(path, "app", many)
     bench.says("25 refusals", got, line(0, refused=25, number=2), 1,
                [f"{at:02}.class: refused 14" for at in range(20)] + ["refused 5 more"])
-    data = bytearray(open(jar, "rb").read())
+    data = bytearray(harness.read(jar))
     at = data.rindex(b"Good.class") - 46  # its header in the directory
     data[at + 16] ^= 1
     spoilt = bench.path("spoilt.jar")
-    with open(spoilt, "wb") as file:
-        file.write(data)
+    harness.write(spoilt, data)
     make_jar(jar, [("A.class", class_bytes("A"))])
     missing, damaged = bench.path("missing"), bench.path("damaged.jar")
-    with open(damaged, "wb") as file:
-        file.write(b"no jar")
+    harness.write(damaged, b"no jar")
     got = bench.run(path, "app", missing, damaged, spoilt, jar)
     good_lines = got[2].splitlines()
     bench.checks.check("paths that can't be read", got[1] == 1 and any(
@@ -233,12 +227,9 @@ def kills(bench, jar, names, count, rng):
     for turn in range(count):
         path = bench.new_path()
         bench.run(path, "app", bench.path("none"), "--new")
-        process = subprocess.Popen([bench.importer, path, "app", jar], stdout=subprocess.PIPE,
-                                   stderr=subprocess.PIPE)
-        time.sleep(rng.uniform(0, whole))
-        process.kill()
-        out, _ = process.communicate()
-        hit += process.returncode == -9
+        out, was_hit = harness.killed([bench.importer, path, "app", jar], b"",
+                                      rng.uniform(0, whole))
+        hit += was_hit
         found = sorted(region.read(path).state().get(b"app", {}))
         wanted = [name.encode() for name in names[:len(found)]]
         good = found == wanted and (not out or len(found) == len(names))
@@ -263,7 +254,7 @@ def listed(path):
 
 def damaged_jars(bench, jar, names, count, rng):
     """Jars with changed bytes, or cut: what can be read of them is imported, and nothing else."""
-    data = open(jar, "rb").read()
+    data = harness.read(jar)
     for turn in range(count):
         spoilt, path = bytearray(data), bench.new_path()
         if turn % 4 == 0:
@@ -272,8 +263,7 @@ def damaged_jars(bench, jar, names, count, rng):
             if spoilt:
                 spoilt[rng.randrange(len(spoilt))] = rng.randrange(256)
         damaged = bench.path("damaged.jar")
-        with open(damaged, "wb") as file:
-            file.write(spoilt)
+        harness.write(damaged, spoilt)
         got = bench.run(path, "app", damaged, "--new")
         found = region.read(path).state().get(b"app", {})
         told = LINE.fullmatch(got[0][0]) if len(got[0]) == 1 else None
@@ -282,32 +272,6 @@ def damaged_jars(bench, jar, names, count, rng):
         good = good and (len(found) == listed(damaged) if got[1] == 0 else got[2] != "")
         bench.checks.check(f"damaged jar {turn}", good, f"{len(found)} classes, {got}")
         os.remove(path)
-
-
-def calls_in(path):
-    """The calls on files that the library logged, with the bytes of writes."""
-    data, at, calls = open(path, "rb").read(), 0, []
-    while at < len(data):
-        letter, first, length = data[at:at + 1], *struct.unpack_from("<QQ", data, at + 1)
-        at += 17
-        written = b""
-        if letter.lower() in (b"w", b"r"):
-            written = data[at:at + length]
-            at += length
-        calls.append((letter, first, written))
-    return calls
-
-
-def replay(data, calls):
-    """What a file holds after each of these calls on it."""
-    data = bytearray(data)
-    for letter, first, written in calls:
-        if letter == b"w":
-            data.extend(bytes(max(0, first + len(written) - len(data))))
-            data[first:first + len(written)] = written
-        elif letter == b"c":
-            del data[first:]
-        yield bytes(data)
 
 
 def is_beginning(path, names):
@@ -321,40 +285,34 @@ def is_beginning(path, names):
 
 def device(bench, count):
     """A run that ends after each call on the file, and each call fails in turn."""
-    names, jar, log = names_of(count), bench.path("device.jar"), bench.path("log")
+    names, jar, path = names_of(count), bench.path("device.jar"), bench.path("faulty")
     make_jar(jar, [(f"{name}.class", class_bytes(name)) for name in names])
     empty = bench.new_path()
     bench.run(empty, "app", bench.path("none"), "--new")
-    data = open(empty, "rb").read()
-    path = bench.path("faulty")
-
-    def put(contents):
-        with open(path, "wb") as file:
-            file.write(contents)
+    data, watched = harness.read(empty), device_calls.Watched(bench.importer, bench.folder)
 
     def run(**faults):
-        put(data)
-        if os.path.exists(log):
-            os.remove(log)
-        env = {"LD_PRELOAD": bench.library, "CALLS": log,
-               **{name: str(value) for name, value in faults.items()}}
-        return bench.run(path, "app", jar, "--workers", "1", env=env)
+        harness.write(path, data)
+        return watched.run([path, "app", jar, "--workers", "1"], **faults)
 
-    bench.says("no fault", run(), line(len(names), number=len(names) + 1), 0)
-    calls = [call for call in calls_in(log) if call[0] in (b"w", b"s", b"c")]
-    syncs = sum(call[0] == b"s" for call in calls)
+    got, calls = run()
+    bench.says("no fault", got, line(len(names), number=len(names) + 1), 0)
+    calls = device_calls.on_file(calls)
+    syncs = calls.count(device_calls.SYNC)
     groups = -(-len(names) // A_GROUP)
     bench.checks.check("two syncs a group", syncs <= 2 * groups + 4, f"{syncs} for {groups} groups")
     least = 0
-    for count, contents in enumerate(replay(data, calls), 1):
-        put(contents)
+    contents = bytearray(data)
+    for count, call in enumerate(calls, 1):
+        device_calls.make(call, contents)
+        harness.write(path, contents)
         found = is_beginning(path, names)
         good = found is not None and found >= least
         bench.checks.check(f"ended after call {count}", good, f"{found} classes, {least} before")
         least = found or least
     bench.checks.check("all are there after the last call", least == len(names), f"{least}")
     for fails in range(1, len(calls) + 1):
-        got = run(FAIL=fails)
+        got, _ = run(FAIL=fails)
         found = is_beginning(path, names)
         told = re.search(r"imported (\d+) before the failure", got[2])
         good = got[1] == 3 and found is not None and "Input/output error" in got[2]
@@ -363,10 +321,10 @@ def device(bench, count):
 
 
 def main(arguments):
-    importer, program, library, count, seed = arguments
+    importer, program, count, seed = arguments
     rng = random.Random(int(seed))
-    with tempfile.TemporaryDirectory(dir=os.environ.get("WORK")) as folder:
-        bench = Bench(importer, program, library, folder)
+    with harness.new_folder() as folder:
+        bench = Bench(importer, program, folder)
         readme(bench)
         jar, names = usual(bench)
         not_imported(bench)

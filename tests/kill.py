@@ -13,12 +13,10 @@ one, or there is none. The words are further arguments of `apply`.
 """
 import os
 import random
-import subprocess
 import sys
-import tempfile
-import threading
 import time
 
+import harness
 import oracle
 import region
 import runs
@@ -30,44 +28,12 @@ LINES = 400
 KILLS_A_FILE = 7
 
 
-def format_words(path, geometry):
-    return ["format", path, "--top", str(geometry.top), "--roots", str(geometry.roots),
-            "--slots", str(geometry.slots)]
-
-
-def killed(words, lines, delay):
-    """Runs the program and kills it after this many seconds: its lines of output, and whether the
-    kill hit it."""
-    process = subprocess.Popen(words, stdin=subprocess.PIPE, stdout=subprocess.PIPE,
-                               stderr=subprocess.DEVNULL)
-
-    def feed():
-        try:
-            process.stdin.write(b"".join(line + b"\n" for line in lines))
-            process.stdin.close()
-        except BrokenPipeError:
-            pass
-
-    feeder = threading.Thread(target=feed)
-    timer = threading.Timer(delay, process.kill)
-    feeder.start()
-    timer.start()
-    out = process.stdout.read()
-    status = process.wait()
-    timer.cancel()
-    feeder.join()
-    try:
-        process.stdin.close()
-    except BrokenPipeError:
-        pass
-    return out.split(b"\n")[:-1], status == -9
-
-
 def kill_apply(checks, program, words, cache, loaders, rng, longest):
     """Whether the run was killed, and whether all that it left is right."""
     path = words[1]
     lines = [runs.some_line(rng, loaders) for _ in range(LINES)]
-    replies, was_hit = killed([program, *words], lines, rng.uniform(0, longest))
+    replies, was_hit = harness.killed([program, *words], harness.text_of(lines),
+                                      rng.uniform(0, longest))
     cache.reopened()
     wanted = [cache.answer(line) for line in lines[:len(replies)]]
     name = f"kill after {cache.number} commands and {len(replies)} replies"
@@ -82,10 +48,10 @@ def kill_apply(checks, program, words, cache, loaders, rng, longest):
 def kill_trim(checks, program, path, cache, rng, longest):
     """A trim that is killed, and one that isn't, leave the same cache; after that one the file
     ends with the last root that is in use."""
-    killed([program, "trim", path], [], rng.uniform(0, longest))
+    harness.killed([program, "trim", path], b"", rng.uniform(0, longest))
     name = f"trim killed after {cache.number} commands"
     good = runs.settle(checks, f"{name}: the file", path, cache, None)
-    told = runs.run(program, ["trim", path])
+    told = harness.run(program, ["trim", path])
     file = region.read(path)
     used = file.roots_used()
     good = checks.check(f"{name}, and then not: what it says",
@@ -109,8 +75,7 @@ def made_older(path):
             if region.number(data, at + 8, 8) > region.number(data, at + 16, 8) + 1:
                 return False
             data[at + 2] = 1
-    with open(path, "wb") as out:
-        out.write(data)
+    harness.write(path, data)
     return True
 
 
@@ -119,7 +84,7 @@ def kill_moving_over(checks, program, path, cache, rng, longest):
     isn't."""
     if not made_older(path):
         return True
-    killed([program, "list", path], [], rng.uniform(0, longest))
+    harness.killed([program, "list", path], b"", rng.uniform(0, longest))
     name = f"moving over killed after {cache.number} commands"
     good = runs.settle(checks, f"{name}: the file", path, cache, None)
     good = runs.tell(checks, f"{name}, and then not", program, path) and good
@@ -129,7 +94,7 @@ def kill_moving_over(checks, program, path, cache, rng, longest):
 
 
 def kill_format(checks, program, path, rng, longest):
-    killed([program, "format", path], [], rng.uniform(0, longest))
+    harness.killed([program, "format", path], b"", rng.uniform(0, longest))
     if os.path.exists(path):
         state, number = runs.state_in(path)
         checks.check("format killed: the file", (state, number) in [("not a cache", None), ({}, 0)],
@@ -144,16 +109,16 @@ def time_of(run):
 
 
 def main(program, kills, seed, further):
-    rng, checks = random.Random(seed), runs.Checks()
-    with tempfile.TemporaryDirectory(dir=os.environ.get("WORK")) as folder:
+    rng, checks = random.Random(seed), harness.Checks()
+    with harness.new_folder() as folder:
         path, other = f"{folder}/cache", f"{folder}/other"
         # How long a run takes that only opens, and one of all lines: kills come at any moment
         # of it.
-        runs.run(program, ["format", path])
+        harness.run(program, ["format", path])
         lines = [runs.some_line(rng, runs.LOADERS) for _ in range(LINES)]
         words = ["apply", path, *further]
-        longest = 1.1 * time_of(lambda: runs.run(program, words, lines))
-        making = 1.1 * time_of(lambda: runs.run(program, ["format", other]))
+        longest = 1.1 * time_of(lambda: harness.run(program, words, lines))
+        making = 1.1 * time_of(lambda: harness.run(program, ["format", other]))
         os.remove(other)
         hits = done = 0
         delay = longest
@@ -166,9 +131,8 @@ def main(program, kills, seed, further):
                 loaders = runs.LONG_LOADERS if files % 2 else runs.LOADERS
                 cache = oracle.Cache(geometry)
                 os.remove(path)
-                if not checks.check(
-                        "format",
-                        runs.run(program, format_words(path, geometry)) == ([b"ok"], 0, "")):
+                made = harness.run(program, runs.format_words(path, geometry))
+                if not checks.check("format", made == ([b"ok"], 0, ""), f"{made}"):
                     break
             was_hit, good = kill_apply(checks, program, words, cache, loaders, rng, delay)
             hits += was_hit

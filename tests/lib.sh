@@ -59,6 +59,11 @@ run() {
     status=$?
 }
 
+# compile_library NAME: the path of tests/NAME.c, compiled to be loaded before a program.
+compile_library() {
+    python3 "$top/tests/harness.py" "$1" "$work"
+}
+
 # executable: the path of the program itself, and not of the script that finds it.
 executable() {
     [ -n "${CMCACHE:-}" ] && { echo "$CMCACHE"; return; }

@@ -25,7 +25,7 @@ built=$(executable)
 } >"$work/script"
 # sweep_program SCRIPT REFUSALS WORD..
 sweep_program() {
-    WORK=$work tests/refused_memory.py "$built" "$library" "${@:2}" <"$1"
+    WORK=$work tests/refused_memory.py "$built" "${@:2}" <"$1"
     check_last "the program with a refused allocation: ${*:2}"
 }
 beside sweep_program "$work/script" 383 apply --memory
@@ -41,7 +41,7 @@ beside sweep_program "$work/script" 467 apply FILE --workers 2
 # The same with the library only: one thread makes a loader and defines a class.
 files=$(find_program cm_bench_files)
 sweep_threads() {
-    WORK=$work tests/refused_memory.py "$files" "$library" "$1" threads FILE --threads 1
+    WORK=$work tests/refused_memory.py "$files" "$1" threads FILE --threads 1
     check_last "a cache for threads with a refused allocation"
 }
 beside sweep_threads 401

@@ -2,7 +2,7 @@
 """Runs the program once for each allocation that it makes, with that one refused, and checks what
 it prints and leaves.
 
-    tests/refused_memory.py PROGRAM ALLOCATIONS_LIBRARY REFUSALS WORD.. <SCRIPT
+    tests/refused_memory.py PROGRAM REFUSALS WORD.. <SCRIPT
 
 The words are the program's; FILE among them is a file: for `format` one that doesn't exist, for a
 script one with an empty cache, and for `check`, `list` and a script without lines, which only opens
@@ -19,10 +19,9 @@ REFUSALS is the expected number of runs with a refusal, or `any` if it depends o
 first without one ends the sweep.
 """
 import os
-import struct
 import sys
-import tempfile
 
+import harness
 import oracle
 import region
 import runs
@@ -64,8 +63,7 @@ def held_cache():
 
 def stream_of_threads():
     """The class that `threads` defines, as it is given."""
-    data = runs.padded(b"A", 0)
-    return len(data).to_bytes(4, "big") + data
+    return harness.stream_of([harness.padded(b"A", 0)])
 
 
 def states_of_threads():
@@ -75,16 +73,16 @@ def states_of_threads():
 
 
 class Sweep:
-    def __init__(self, program, library, words, lines, folder):
+    def __init__(self, program, words, lines, folder):
         self.program = program
-        self.library = library
+        self.library = harness.library("allocations")
         self.path = f"{folder}/cache" if "FILE" in words else None
         self.words = [self.path if word == "FILE" else word for word in words]
         self.lines = lines
         self.counts = f"{folder}/counts"
         self.states = states_of_threads()
         self.is_made = False
-        self.checks = runs.Checks()
+        self.checks = harness.Checks()
         # Whether the file is only read.
         self.makes = words[0] in ("format", "threads")
         self.looks = words[0] in ("check", "list") or not self.makes and not lines
@@ -92,15 +90,13 @@ class Sweep:
 
     def run(self, refuse):
         """The result of the run with that allocation refused, and whether there was one."""
-        if self.path and os.path.exists(self.path):
-            os.remove(self.path)
+        if self.path:
+            harness.remove(self.path)
         if self.path and not self.makes:
-            with open(self.path, "wb") as file:
-                file.write(self.begins)
+            harness.write(self.path, self.begins)
         env = {"LD_PRELOAD": self.library, "ALLOCATIONS": self.counts, "REFUSE": str(refuse)}
-        ran = runs.run(self.program, self.words, self.lines, env)
-        with open(self.counts, "rb") as file:
-            return ran, struct.unpack("3Q", file.read(24))[2] > 0
+        ran = harness.run(self.program, self.words, self.lines, env)
+        return ran, harness.refusals(self.counts) > 0
 
     def check_script(self, name, ran):
         replies, status, _ = ran
@@ -147,8 +143,7 @@ class Sweep:
         cut = (status == 3 and (errors or replies == [b"memory"])
                and (replies == [b"memory"] or replies == due[:len(replies)]))
         self.checks.check(name, ran == (due, 0, "") or cut, f"{ran}")
-        with open(self.path, "rb") as held:
-            self.checks.check(f"{name}: the file", held.read() == self.begins)
+        self.checks.check(f"{name}: the file", harness.read(self.path) == self.begins)
 
     def sweep(self, wanted):
         for refuse in range(1, MOST):
@@ -172,11 +167,11 @@ class Sweep:
         return self.checks.finish()
 
 
-def main(program, library, wanted, *words):
-    with tempfile.TemporaryDirectory(dir=os.environ.get("WORK")) as folder:
+def main(program, wanted, *words):
+    with harness.new_folder() as folder:
         lines = (stream_of_threads() if words[0] == "threads"
                  else oracle.lines_of(sys.stdin.buffer.read()))
-        return Sweep(program, library, words, lines, folder).sweep(wanted)
+        return Sweep(program, words, lines, folder).sweep(wanted)
 
 
 if __name__ == "__main__":

@@ -8,26 +8,14 @@ A draft is a class as its parts: entries 1 to 4 of its pool are the class A with
 class java/lang/Object with its name, and its own entries follow from index 5 on. A table's rows end
 in the expected result: True, or the rule and the spot.
 """
-import struct
 import sys
 from dataclasses import dataclass, field
 
-import runs
+import harness
+from harness import u2, u4, utf8
 
 
 # ---- drafts
-
-def u2(number):
-    return struct.pack(">H", number)
-
-
-def u4(number):
-    return struct.pack(">I", number)
-
-
-def text(content):
-    return b"\x01" + u2(len(content)) + content
-
 
 def four(tag):
     """An Integer 3 or a Float 4, of zero bits."""
@@ -53,9 +41,6 @@ def two(tag, first, second):
 def handle(kind, reference):
     return bytes([15, kind]) + u2(reference)
 
-
-HEADING = bytes.fromhex("cafebabe00000034")
-FIRST_ENTRIES = one(7, 2) + text(b"A") + one(7, 4) + text(b"java/lang/Object")
 
 
 def attributes(parts):
@@ -90,10 +75,10 @@ class Draft:
 
     def spelled(self):
         count = 5 + len(self.entries) + sum(entry[0] in (5, 6) for entry in self.entries)
-        pool = u2(count) + FIRST_ENTRIES + b"".join(self.entries)
+        pool = u2(count) + harness.pool_of(b"A") + b"".join(self.entries)
         head = u2(self.flags) + u2(self.this_class) + u2(self.super_class)
         interfaces = u2(len(self.interfaces)) + b"".join(u2(index) for index in self.interfaces)
-        return (HEADING + pool + head + interfaces + self.members(self.fields)
+        return (harness.VERSION_52 + pool + head + interfaces + self.members(self.fields)
                 + self.members(self.methods) + attributes(self.attributes))
 
 
@@ -104,9 +89,7 @@ def broken(right, rule, spot):
 
 # ---- class A byte by byte
 
-CLASS_A = bytes.fromhex(
-    "cafebabe0000003400050700020100014107000401"
-    "00106a6176612f6c616e672f4f626a6563740021000100030000000000000000")
+CLASS_A = harness.class_a()
 
 # Where the indexes stand that class A has.
 ENTRY_1, ENTRY_3, THIS_CLASS, SUPER_CLASS = 11, 18, 41, 43
@@ -119,13 +102,6 @@ CHANGED = [
 ]
 
 
-def padded(name, length, zeros):
-    """Class A by another name of one byte, with an attribute of this many zeros whose length is
-    given."""
-    pool = b"\x00\x06" + one(7, 2) + text(name) + one(7, 4) + text(b"java/lang/Object") + text(b"X")
-    return HEADING + pool + CLASS_A[39:51] + b"\x00\x01" + u2(5) + u4(length) + bytes(zeros)
-
-
 def of_class_a():
     for length in range(1, len(CLASS_A)):
         yield CLASS_A[:length], "truncated"
@@ -133,10 +109,10 @@ def of_class_a():
     yield b"x", "malformed 0"
     for at, number, expected in CHANGED:
         yield CLASS_A[:at] + u2(number) + CLASS_A[at + 2:], expected
-    yield padded(b"A", 0, 0), None
-    yield padded(b"B", 5, 5), None
-    yield padded(b"/", 0, 0), (4, "pool 1")
-    yield padded(b"A", 0xffff_ffff, 0), "truncated"
+    yield harness.padded(b"A", 0), None
+    yield harness.padded(b"B", 5), None
+    yield harness.padded(b"/", 0), (4, "pool 1")
+    yield harness.padded(b"A", 0)[:-4] + u4(0xffff_ffff), "truncated"
 
 
 # ---- the class itself
@@ -167,7 +143,7 @@ def of_heads():
     for flags, right in FLAGS:
         yield Draft(flags=flags), broken(right, 10, "this")
     for name, expected in OWN_CLASS:
-        yield Draft([text(name), one(7, 5)], this_class=6), expected
+        yield Draft([utf8(name), one(7, 5)], this_class=6), expected
     for flags, this_class, super_class, expected in SUPER_CLASSES:
         yield Draft(flags=flags, this_class=this_class, super_class=super_class), expected
     for interfaces, expected in INTERFACES:
@@ -177,7 +153,7 @@ def of_heads():
 # ---- fields
 
 FIELD_ENTRIES = [
-    text(b"I"), text(b"J"), text(b"I"), text(b"A"),
+    utf8(b"I"), utf8(b"J"), utf8(b"I"), utf8(b"A"),
 ]
 
 FIELD_INDEXES = [
@@ -218,9 +194,9 @@ NAME_B = b"the front of a name that is a long one, b, and the back of a name tha
 
 # Five names with each base type, and others after them.
 MANY = [
-    text(b"a"), text(b"b"), text(b"c"), text(b"d"), text(b"e"), text(b"B"), text(b"C"), text(b"D"),
-    text(b"F"), text(b"I"), text(b"J"), text(b"S"), text(b"Z"), text(b"a"), text(NAME_A),
-    text(NAME_B),
+    utf8(b"a"), utf8(b"b"), utf8(b"c"), utf8(b"d"), utf8(b"e"), utf8(b"B"), utf8(b"C"), utf8(b"D"),
+    utf8(b"F"), utf8(b"I"), utf8(b"J"), utf8(b"S"), utf8(b"Z"), utf8(b"a"), utf8(NAME_A),
+    utf8(NAME_B),
 ]
 
 CROSSED = [(1, name, descriptor) for name in range(5, 10) for descriptor in range(10, 18)]
@@ -235,10 +211,10 @@ def of_fields():
     for fields, parts, expected in FIELD_INDEXES:
         yield Draft(FIELD_ENTRIES, fields=fields, parts=parts), expected
     for name, descriptor, right in FIELD_NAMES:
-        yield (Draft([text(name), text(descriptor)], fields=[(1, 5, 6)]),
+        yield (Draft([utf8(name), utf8(descriptor)], fields=[(1, 5, 6)]),
                broken(right, 13, "field 0"))
     for dimensions, right in (255, True), (256, False):
-        yield (Draft([text(b"[" * dimensions + b"I")], fields=[(1, 2, 5)]),
+        yield (Draft([utf8(b"[" * dimensions + b"I")], fields=[(1, 2, 5)]),
                broken(right, 13, "field 0"))
     for class_flags, flags, right in FIELD_FLAGS:
         yield (Draft(FIELD_ENTRIES, flags=class_flags, fields=[(flags, 2, 5)]),
@@ -252,7 +228,7 @@ def of_fields():
 # ---- methods and their code
 
 METHOD_ENTRIES = [
-    text(b"()V"), text(b"Code"), text(b"<init>"), text(b"<clinit>"), text(b"()I"), text(b"()V"),
+    utf8(b"()V"), utf8(b"Code"), utf8(b"<init>"), utf8(b"<clinit>"), utf8(b"()I"), utf8(b"()V"),
 ]
 
 # A code of one byte, `return`.
@@ -346,11 +322,11 @@ def of_methods():
     for methods, parts, expected in METHOD_INDEXES:
         yield Draft(METHOD_ENTRIES, methods=methods, parts=parts), expected
     for name, descriptor, right in METHOD_NAMES:
-        yield (Draft([text(name), text(descriptor)], methods=[(0x0401, 5, 6)]),
+        yield (Draft([utf8(name), utf8(descriptor)], methods=[(0x0401, 5, 6)]),
                broken(right, 16, "method 0"))
     for flags, name, parameter, times, right in METHOD_UNITS:
         descriptor = b"(" + parameter * times + b")V"
-        yield (Draft([text(name), text(descriptor)], methods=[(flags, 5, 6)]),
+        yield (Draft([utf8(name), utf8(descriptor)], methods=[(flags, 5, 6)]),
                broken(right, 17, "method 0"))
     for name, flags, parts, right in METHOD_FLAGS:
         yield (Draft(METHOD_ENTRIES, methods=[(flags, name, 5)], parts=parts),
@@ -389,8 +365,8 @@ def of_codes():
 # Entries 5 to 17: the names of attributes, then constants, the Long on 12 and 13, the Double on 15
 # and 16.
 MEMBER_ENTRIES = [
-    text(b"ConstantValue"), text(b"Exceptions"), text(b"Signature"), text(b"Synthetic"),
-    text(b"Deprecated"), four(3), four(4), eight(5), one(8, 2), eight(6), text(b"()V"),
+    utf8(b"ConstantValue"), utf8(b"Exceptions"), utf8(b"Signature"), utf8(b"Synthetic"),
+    utf8(b"Deprecated"), four(3), four(4), eight(5), one(8, 2), eight(6), utf8(b"()V"),
 ]
 
 # Index 10 is an Integer, 11 a Float, 12 a Long, 14 a String, 15 a Double.
@@ -425,11 +401,11 @@ METHOD_ATTRIBUTES = [
 
 def of_members():
     for descriptor, index, right in STATIC_VALUES:
-        entries = MEMBER_ENTRIES + [text(descriptor)]
+        entries = MEMBER_ENTRIES + [utf8(descriptor)]
         yield (Draft(entries, fields=[(0x0018, 2, 18)], parts=[5, 2, 0, index]),
                broken(right, 22, "field 0"))
     for flags, parts, right in FIELD_ATTRIBUTES:
-        yield (Draft(MEMBER_ENTRIES + [text(b"I")], fields=[(flags, 2, 18)], parts=parts),
+        yield (Draft(MEMBER_ENTRIES + [utf8(b"I")], fields=[(flags, 2, 18)], parts=parts),
                broken(right, 22, "field 0"))
     for parts, right in METHOD_ATTRIBUTES:
         yield (Draft(MEMBER_ENTRIES, methods=[(0x0401, 2, 17)], parts=parts),
@@ -439,9 +415,9 @@ def of_members():
 # ---- attributes of the class; a row ends in the place of the first bad one
 
 CLASS_ENTRIES = [
-    text(b"SourceFile"), text(b"Signature"), text(b"Synthetic"), text(b"Deprecated"),
-    text(b"EnclosingMethod"), text(b"InnerClasses"), two(12, 2, 12), text(b"()V"),
-    text(b"SourceFile"),
+    utf8(b"SourceFile"), utf8(b"Signature"), utf8(b"Synthetic"), utf8(b"Deprecated"),
+    utf8(b"EnclosingMethod"), utf8(b"InnerClasses"), two(12, 2, 12), utf8(b"()V"),
+    utf8(b"SourceFile"),
 ]
 
 SOURCES_AND_OTHERS = [
@@ -470,7 +446,7 @@ INNER_CLASSES = [
 # Entries 5 to 17. Index 9 is a method handle, 10 to 17 are numbers, a String and a MethodType; 13
 # and 15 are the second indexes of a Long and of a Double.
 BOOTSTRAPS = [
-    text(b"BootstrapMethods"), text(b"()V"), two(12, 2, 6), two(10, 1, 7), handle(6, 8), four(3),
+    utf8(b"BootstrapMethods"), utf8(b"()V"), two(12, 2, 6), two(10, 1, 7), handle(6, 8), four(3),
     four(4), eight(5), eight(6), one(8, 2), one(16, 6),
 ]
 
@@ -529,7 +505,7 @@ KINDS = [
 
 # Entry 7 is a Fieldref, 10 a Methodref, 11 an InterfaceMethodref, 12 the handle of the row. All
 # members are named A.
-REFERENCES_OF_HANDLES = [text(b"I"), two(12, 2, 5), two(9, 1, 6), text(b"()V"), two(12, 2, 8),
+REFERENCES_OF_HANDLES = [utf8(b"I"), two(12, 2, 5), two(9, 1, 6), utf8(b"()V"), two(12, 2, 8),
                          two(10, 1, 9), two(11, 1, 9)]
 
 # The handle's kind, what it refers to, and the rule that it breaks.
@@ -588,29 +564,29 @@ UNITS = [
 
 def of_pool():
     for content, right in TEXTS:
-        yield Draft([text(content)]), broken(right, 1, "pool 5")
+        yield Draft([utf8(content)]), broken(right, 1, "pool 5")
     for entry, right in KINDS:
         yield Draft([eight(5), two(12, 2, 2), entry]), broken(right, 2, "pool 8")
     for kind, reference, rule in HANDLES:
         yield (Draft(REFERENCES_OF_HANDLES + [handle(kind, reference)]),
                broken(rule is None, rule, "pool 12"))
     for kind, tag, name, descriptor, right in NAMES_OF_HANDLES:
-        entries = [text(name), text(descriptor), two(12, 5, 6), two(tag, 1, 7), handle(kind, 8)]
+        entries = [utf8(name), utf8(descriptor), two(12, 5, 6), two(tag, 1, 7), handle(kind, 8)]
         yield Draft(entries), broken(right, 9, "pool 9")
     for name, right in CLASS_NAMES:
-        yield Draft([text(name), one(7, 5)]), broken(right, 4, "pool 6")
+        yield Draft([utf8(name), one(7, 5)]), broken(right, 4, "pool 6")
 
 
 def of_references():
     for tag, name, descriptor, rule in REFERENCES:
-        yield (Draft([text(name), text(descriptor), two(12, 5, 6), two(tag, 1, 7)]),
+        yield (Draft([utf8(name), utf8(descriptor), two(12, 5, 6), two(tag, 1, 7)]),
                broken(rule is None, rule, "pool 8"))
     for name, descriptor, rule in DYNAMIC_CALLS:
-        yield Draft([text(name), text(descriptor), two(12, 5, 6), two(18, 0, 7)]), (rule, "pool 8")
+        yield Draft([utf8(name), utf8(descriptor), two(12, 5, 6), two(18, 0, 7)]), (rule, "pool 8")
     for descriptor, right in METHOD_TYPES:
-        yield Draft([text(descriptor), one(16, 5)]), broken(right, 8, "pool 6")
+        yield Draft([utf8(descriptor), one(16, 5)]), broken(right, 8, "pool 6")
     for front, parameter, times, right in UNITS:
-        yield (Draft([text(front + parameter * times + b")V"), one(16, 5)]),
+        yield (Draft([utf8(front + parameter * times + b")V"), one(16, 5)]),
                broken(right, 8, "pool 6"))
 
 
@@ -631,15 +607,15 @@ def is_told(reply, expected):
 
 
 def main(program):
-    checks = runs.Checks()
+    checks = harness.Checks()
     for theme in (of_class_a, of_heads, of_fields, of_methods, of_codes, of_members, of_attributes,
                   of_pool, of_references):
         cases = [*theme()]
         # Each class has a loader of its own, since many have one name.
         lines = [line for at, (case, _) in enumerate(cases)
                  for line in (b"loader l%d" % at,
-                              b"define l%d %s" % (at, spelled(case).hex().encode()))]
-        replies, _, errors = runs.run(program, ["apply", "--memory"], lines)
+                              harness.define(b"l%d" % at, spelled(case)))]
+        replies, _, errors = harness.run(program, ["apply", "--memory"], lines)
         checks.check(f"{theme.__name__}: a reply to each line",
                      len(replies) == len(lines) and not errors, errors)
         for at, (_, expected) in enumerate(cases):

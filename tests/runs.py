@@ -1,8 +1,6 @@
-"""Shared by the scripts that run the program on files and stop it: runs, random scripts, and checks
-of a file."""
-import os
-import subprocess
-
+"""Shared by the scripts that run the program on files and stop it: random scripts, and checks of a
+file."""
+import harness
 import oracle
 import region
 
@@ -11,20 +9,10 @@ LOADERS = [b"app", b"ext", b"lib", b"web"]
 LONG_LOADERS = [b"app", b"m" * 48, b"m" * 49, b"m" * 96]
 TOO_LONG = b"m" * 97
 CLASSES = [b"A", b"B", b"C", b"D", b"E", b"F"]
-HEAD = bytes.fromhex(
-    "cafebabe00000034000607000201000141" "0700040100106a6176612f6c616e672f4f626a656374" "01000158")
-TAIL = bytes.fromhex("002100010003" "000000000000" "0001" "0005")
-
-
-def padded(name, zeros):
-    """Class A under another name of one letter, with an attribute of this many zeros: its record
-    has 20 words and one more for each eight of them."""
-    return (HEAD.replace(b"\x01\x00\x01A", b"\x01\x00\x01" + name) + TAIL + zeros.to_bytes(4, "big")
-            + bytes(zeros))
 
 
 def define(loader, name, zeros):
-    return b"define %s %s" % (loader, padded(name, zeros).hex().encode())
+    return harness.define(loader, harness.padded(name, zeros))
 
 
 def some_loaders(rng):
@@ -56,37 +44,10 @@ FINDS = [b"find %s %s" % (loader, name) for loader in LOADERS + LONG_LOADERS[1:]
          for name in CLASSES]
 
 
-class Checks:
-    """Counts what passed, and prints what didn't."""
-
-    def __init__(self):
-        self.passed = 0
-        self.failed = 0
-
-    def check(self, name, holds, why=""):
-        if holds:
-            self.passed += 1
-        else:
-            self.failed += 1
-            print(f"FAILED: {name} {why}", flush=True)
-        return holds
-
-    def finish(self):
-        print(f"{self.passed} passed, {self.failed} failed")
-        return 1 if self.failed else 0
-
-
-def run(program, words, lines=(), env=None, limit=None):
-    """Runs the program on lines, or on bytes as they are, to its end: its lines of output, its
-    status and its standard error. A limit is one on the size of files, whose signal is
-    ignored."""
-    words = [program, *words]
-    if limit is not None:
-        words = ["bash", "-c", f"trap '' XFSZ; ulimit -f {limit}; exec \"$@\"", "bash", *words]
-    data = lines if isinstance(lines, bytes) else b"".join(line + b"\n" for line in lines)
-    ran = subprocess.run(words, input=data, stdout=subprocess.PIPE, stderr=subprocess.PIPE,
-                         env={**os.environ, **(env or {})}, check=False)
-    return ran.stdout.split(b"\n")[:-1], ran.returncode, ran.stderr.decode(errors="replace")
+def format_words(path, geometry):
+    """The words with which the program makes a file of these sizes."""
+    return ["format", path, "--top", str(geometry.top), "--roots", str(geometry.roots),
+            "--slots", str(geometry.slots)]
 
 
 def answers(cache, lines):
@@ -119,7 +80,7 @@ def settle(checks, name, path, cache, line):
 def look_up(checks, name, program, path, cache):
     """Looks up each class of the file by the program, in a run of its own."""
     cache.reopened()
-    got = run(program, ["apply", path], FINDS)
+    got = harness.run(program, ["apply", path], FINDS)
     wanted, status = answers(cache, FINDS)
     return checks.check(name, got == (wanted, status, ""), f"got {got}, wanted {wanted}")
 
@@ -127,7 +88,8 @@ def look_up(checks, name, program, path, cache):
 def tell(checks, name, program, path):
     """Checks and lists the file by the program, each in a run of its own."""
     file = region.read(path)
-    checked, listed = run(program, ["check", path]), run(program, ["list", path])
+    checked = harness.run(program, ["check", path])
+    listed = harness.run(program, ["list", path])
     good = checks.check(f"{name}, checked", checked == ([file.report().encode()], 0, ""),
                         f"got {checked}")
     return (checks.check(f"{name}, listed", listed == ([*file.listed()], 0, ""), f"got {listed}")

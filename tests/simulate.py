@@ -2,10 +2,9 @@
 """Compares `cm_simulate` with a plain model of the world: random event lists, and walks stopped at
 each device call.
 
-    tests/simulate.py PROGRAM            event lists, walks, lines that are no event, the file of
-                                         the disk
-    tests/simulate.py PROGRAM LIBRARY N  a simulation once for each of its allocations, with that
-                                         one refused; N are met
+    tests/simulate.py PROGRAM      event lists, walks, lines that are no event, the file of the disk
+    tests/simulate.py PROGRAM N    a simulation once for each of its allocations, with that one
+                                   refused; N are met
 
 What is accepted, and where it lies, is oracle.py's; the device calls of a group are region.py's.
 The world around them has what is handed out and what is acknowledged, and what the device call
@@ -17,36 +16,14 @@ import os
 import random
 import re
 import struct
-import subprocess
 import sys
-import tempfile
 
-sys.path.insert(0, os.path.dirname(os.path.abspath(__file__)))
+import harness
 import oracle
 import region
 
 LISTS = 1500
 MOST_ALLOCATIONS = 2000
-
-
-# ---- class files
-
-def utf8(text):
-    return b"\x01" + struct.pack(">H", len(text)) + text
-
-
-def class_a(name=b"A"):
-    """A class of this name, of java/lang/Object, with nothing in it."""
-    pool = b"\x07\x00\x02" + utf8(name) + b"\x07\x00\x04" + utf8(b"java/lang/Object")
-    return (b"\xca\xfe\xba\xbe\x00\x00\x00\x34\x00\x05" + pool + b"\x00\x21\x00\x01\x00\x03"
-            + bytes(8))
-
-
-def class_p(name, count):
-    """The same with an attribute X of this many zeros."""
-    data = class_a(name)
-    return (data[:9] + b"\x06" + data[10:-14] + utf8(b"X") + data[-14:-2] + b"\x00\x01\x00\x05"
-            + struct.pack(">I", count) + bytes(count))
 
 
 # ---- the world
@@ -303,27 +280,7 @@ class Simulation:
         return self.replies[-1]
 
     def text(self):
-        return b"".join(line + b"\n" for line in self.lines)
-
-
-def run(program, text, *words, **names):
-    ran = subprocess.run([program, *words], input=text, stdout=subprocess.PIPE,
-                         stderr=subprocess.PIPE, env={**os.environ, **names})
-    return ran.stdout.decode().split("\n")[:-1], ran.returncode, ran.stderr.decode()
-
-
-class Checks:
-    def __init__(self):
-        self.passed = 0
-        self.failed = 0
-
-    def check(self, right, what):
-        if right:
-            self.passed += 1
-        else:
-            self.failed += 1
-            if self.failed <= 10:
-                print("FAILED:", what)
+        return harness.text_of(self.lines)
 
 
 # ---- event lists
@@ -331,13 +288,13 @@ class Checks:
 NAMES = [b"a", b"b", b"c", b"app", b"~!%", b"m" * 49, b"n" * 96]
 # Names on both sides of each limit, and bytes that no name has.
 ODD_NAMES = [b"x" * length for length in (47, 48, 49, 95, 96, 97)] + [b"x" * 48 + b"\x7f", b"\x7f"]
-CLASSES = ([(class_a(n), n) for n in (b"A", b"B", b"C")]
-           + [(class_p(b"A", 0), b"A"), (class_p(b"D", 33), b"D"), (class_p(b"E", 8), b"E")]
-           + [(class_p(b"F", 864), b"F"), (class_p(b"G", 900), b"G"), (class_p(b"H", 5000), b"H")]
-           + [(class_p(b"I", 24000), b"I")])
-BAD = [class_a() + b"\x00", class_a()[:-1], b"\xca", class_a()[:-2] + b"\x00\x01",
-       class_a().replace(b"\x00\x21", b"\x02\x21")]
-TOO_LONG = class_p(b"L", 8 * (4097 - 20))
+A = harness.class_a()
+CLASSES = [(harness.class_a(name), name) for name in (b"A", b"B", b"C")]
+CLASSES += [(harness.padded(name, zeros), name) for name, zeros in (
+    (b"A", 0), (b"D", 33), (b"E", 8), (b"F", 864), (b"G", 900), (b"H", 5000), (b"I", 24000))]
+BAD = [A + b"\x00", A[:-1], b"\xca", A[:-2] + b"\x00\x01",
+       A.replace(b"\x00\x21", b"\x02\x21")]
+TOO_LONG = harness.padded(b"L", 8 * (4097 - 20))
 FILLS = [b"", b"\xa5", b"\x00", b"\xa4", b"\xff" * 3]
 
 
@@ -437,12 +394,12 @@ def draw_list(seed):
 
 def compare(checks, program, simulation, what):
     due = simulation.replies
-    got, status, _ = run(program, simulation.text())
+    got, status, _ = harness.simulated(program, simulation.text())
     at = next((i for i, pair in enumerate(zip(due, got)) if pair[0] != pair[1]), None)
     line = ("" if at is None
             else f", line {at + 2} {simulation.lines[at + 1][:60]!r}: {got[at]} and not {due[at]}")
-    checks.check(got == due and status == 0,
-                 f"{what}: status {status}, {len(got)} of {len(due)} replies{line}")
+    checks.check(what, got == due and status == 0,
+                 f"status {status}, {len(got)} of {len(due)} replies{line}")
 
 
 def check_lists(checks, program):
@@ -463,8 +420,7 @@ def check_lists(checks, program):
                + [f"crash before {call}" for call in calls - {"root"}])
     wanted += ["crash, gate of the group unsynced", "crash at rest"]
     missed = [f"{kind} ({met.get(kind, 0)})" for kind in wanted if met.get(kind, 0) < 20]
-    checks.check(not missed,
-                 f"the lists meet each reply and each stop at least 20 times, but not {missed}")
+    checks.check("the lists meet each reply and each stop at least 20 times", not missed, missed)
     return met
 
 
@@ -479,7 +435,7 @@ def beginning():
     for event in (("loader", b"app"), ("seal",), ("advance",), ("advance",), ("advance",),
                   ("advance",), ("learn",)):
         simulation.add(*event)
-    simulation.add("define", b"app", class_a())
+    simulation.add("define", b"app", A)
     simulation.add("seal")
     return simulation
 
@@ -517,7 +473,7 @@ def before_checkpoint(is_other_open):
     simulation.add("loader", b"app")
     store(simulation)
     fill_halves(simulation, is_other_open)
-    simulation.add("define", b"app", class_a())
+    simulation.add("define", b"app", A)
     simulation.add("seal")
     return simulation
 
@@ -558,7 +514,7 @@ def check_walk(checks, program, simulation, device_calls, calls, stored, end):
     compare(checks, program, simulation, what)
     wanted = [f"opened {number}", "class 16"] if there else [f"opened {number - 1}", "none"]
     is_right = calls < at_end or stored is not None or there
-    checks.check(simulation.replies[-2:] == wanted and is_right, f"{what}: the model")
+    checks.check(f"{what}: the model", simulation.replies[-2:] == wanted and is_right)
     # What is opened can be used further.
     simulation.add("loader", b"next")
     store(simulation)
@@ -591,8 +547,8 @@ def check_each_stop(checks, program, check, begin, device_calls, walks):
 
 # Of a loader's classes the last one, or the last two, lie in a chunk of order 1 at word 256; their
 # words are so few that they fit into one of order 0, of which the first free one is at 128.
-ONE_MOVES = [class_p(b"A", 0), class_p(b"B", 864)]
-TWO_MOVE = [class_p(b"A", 864), class_p(b"B", 0), class_p(b"C", 0)]
+ONE_MOVES = [harness.padded(b"A", 0), harness.padded(b"B", 864)]
+TWO_MOVE = [harness.padded(b"A", 864), harness.padded(b"B", 0), harness.padded(b"C", 0)]
 
 
 def before_move(classes):
@@ -626,7 +582,7 @@ def check_found(checks, program, simulation, what, replies, found):
         simulation.add("look", b"app", name)
     compare(checks, program, simulation, what)
     wanted = replies + [f"class {words}" for _, words in found]
-    checks.check(simulation.replies[-len(wanted):] == wanted, f"{what}: the model")
+    checks.check(f"{what}: the model", simulation.replies[-len(wanted):] == wanted)
 
 
 def check_move(checks, program, simulation, device_calls, calls, stored, end, goes_on=False):
@@ -641,7 +597,7 @@ def check_move(checks, program, simulation, device_calls, calls, stored, end, go
     check_found(checks, program, simulation, what, [f"opened {number - 1 + there}"], found)
     again = simulation.add("tighten", b"app")
     wanted = f"number {number + there}" if goes_on == there else "refused 8"
-    checks.check(again == wanted, f"{what}: another move: {again}")
+    checks.check(f"{what}: another move", again == wanted, again)
     simulation.add("loader", b"next")
     store(simulation)
     simulation.add("crash", 0, b"\x00")
@@ -664,9 +620,9 @@ def check_move_waits(checks, program):
     """The chunk that a move leaves waits for its receipt. Worked out by hand: a root of eight
     blocks, of which a's classes take 0, and 2 and 3, then 1; and b's first takes the upper half."""
     lines = [b"geometry 3 1 256", b"loader a"]
-    lines += [b"define a " + data.hex().encode() for data in ONE_MOVES]
-    lines += [b"tighten a", b"loader b", b"define b " + class_p(b"A", 3936).hex().encode()]
-    full = b"define b " + class_p(b"B", 0).hex().encode()
+    lines += [harness.define(b"a", data) for data in ONE_MOVES]
+    lines += [b"tighten a", b"loader b", b"define b " + harness.padded(b"A", 3936).hex().encode()]
+    full = b"define b " + harness.padded(b"B", 0).hex().encode()
     lines += [full, b"seal"] + [b"advance"] * 9 + [full, b"learn", full]
     lines += [b"tighten b", b"tighten a", b"look a A", b"look a B", b"look b A", b"look b B"]
     # A root, four records, the group, a sync, the gate, a sync.
@@ -674,15 +630,15 @@ def check_move_waits(checks, program):
     wanted += ["refused 6", "group 1 6"] + ["working"] * 8
     wanted += ["done 6", "refused 6", "learnt 6", "number 7", "refused 8", "refused 8"]
     wanted += ["class 20", "class 128", "class 512", "class 20"]
-    got, status, _ = run(program, b"\n".join(lines))
-    checks.check(got == wanted and status == 0, f"a chunk that a move leaves: {got}")
+    got, status, _ = harness.simulated(program, b"\n".join(lines))
+    checks.check("a chunk that a move leaves", got == wanted and status == 0, got)
 
 
 def before_trim():
     """A class that was stored and is unloaded: the file has a root that no row uses."""
     simulation = Simulation(3, 2, 256)
     simulation.add("loader", b"app")
-    simulation.add("define", b"app", class_a())
+    simulation.add("define", b"app", A)
     store(simulation)
     simulation.add("unload", b"app")
     store(simulation)
@@ -695,9 +651,9 @@ def before_growth():
     """The first root is full, and a trim cut off the second, which the accepted cache still has.
     The last chunk of `app` has two blocks, of which it needs one."""
     simulation = before_move(ONE_MOVES)
-    for event in (("loader", b"c"), ("define", b"c", class_p(b"A", 864)),
-                  ("define", b"c", class_p(b"B", 3936)), ("loader", b"b"),
-                  ("define", b"b", class_p(b"A", 0))):
+    for event in (("loader", b"c"), ("define", b"c", harness.padded(b"A", 864)),
+                  ("define", b"c", harness.padded(b"B", 3936)), ("loader", b"b"),
+                  ("define", b"b", harness.padded(b"A", 0))):
         simulation.add(*event)
     store(simulation)
     simulation.add("unload", b"b")
@@ -709,19 +665,19 @@ def before_growth():
 
 def check_move_grows(checks, program):
     """A move into a root that was cut off writes that root again."""
-    checks.check(before_growth().replies[-1] == "trimmed 1", "a trim cuts off the second root")
+    checks.check("a trim cuts off the second root", before_growth().replies[-1] == "trimmed 1")
     walks = list(ends((0, 1 << 40), (b"", b"\xa5", b"\xa5" * 9000)))
     # The chunk that it left lies before the one in the second root, which no opening knows without
     # the move.
     check_each_stop(checks, program, functools.partial(check_move, goes_on=True),
                     lambda: handed_out(before_growth()), region.group_calls(1, 1), walks)
-    with tempfile.TemporaryDirectory() as folder:
+    with harness.new_folder() as folder:
         path = os.path.join(folder, "disk")
         simulation = handed_out(before_growth())
         store(simulation)
-        run(program, simulation.text(), "--disk", path)
-        checks.check(b"class B words 128 root 1 at 0" in region.read(path).listed(),
-                     "class B lies in the second root")
+        harness.simulated(program, simulation.text(), "--disk", path)
+        checks.check("class B lies in the second root",
+                     b"class B words 128 root 1 at 0" in region.read(path).listed())
 
 
 def check_trims(checks, program):
@@ -732,31 +688,31 @@ def check_trims(checks, program):
     for end in walks:
         for calls, fails in (0, False), (1, False), (2, False), (1, True), (2, True):
             simulation = before_trim()
-            checks.check(simulation.replies[-1] == "due", "a trim is due")
+            checks.check("a trim is due", simulation.replies[-1] == "due")
             for call in range(calls):
                 if fails and call == calls - 1:
                     simulation.add("fault", 0)
                 simulation.add("advance")
             simulation.add(*end)
             what = f"a trim stopped after {calls} calls, the last failed: {fails}, {end[0]}"
-            checks.check(simulation.replies[-1] == "opened 3", f"{what}: the model")
+            checks.check(f"{what}: the model", simulation.replies[-1] == "opened 3")
             simulation.add("trim")
             while simulation.add("advance") == "working":
                 pass
-            for event in (("loader", b"next"), ("define", b"next", class_a())):
+            for event in (("loader", b"next"), ("define", b"next", A)):
                 simulation.add(*event)
             store(simulation)
             simulation.add("crash", 0, b"")
             simulation.add("look", b"next", b"A")
-            checks.check(simulation.replies[-1] == "class 16", f"{what}: the model continues")
+            checks.check(f"{what}: the model continues", simulation.replies[-1] == "class 16")
             compare(checks, program, simulation, what)
 
 
 def check_region(checks, program):
     """A left chunk waits for the receipt of what left it. Worked out by hand: one root, and classes
     as long as it."""
-    data, other = class_p(b"A", 8032), class_p(b"B", 0)
-    lines = [b"geometry 3 1 256", b"loader a", b"define a " + data.hex().encode(), b"loader b",
+    data, other = harness.padded(b"A", 8032), harness.padded(b"B", 0)
+    lines = [b"geometry 3 1 256", b"loader a", harness.define(b"a", data), b"loader b",
              b"unload a"]
     full = b"define b " + other.hex().encode()
     lines += [full, b"seal"] + [b"advance"] * 6 + [full, b"learn", full, b"look b B"]
@@ -764,12 +720,12 @@ def check_region(checks, program):
     wanted = (["number 1", "number 2", "number 3", "number 4", "refused 6", "group 1 4"]
               + ["working"] * 5)
     wanted += ["done 4", "refused 6", "learnt 4", "number 5", "class 20"]
-    got, status, _ = run(program, b"\n".join(lines))
-    checks.check(got == wanted and status == 0, f"one root, two loaders: {got}")
+    got, status, _ = harness.simulated(program, b"\n".join(lines))
+    checks.check("one root, two loaders", got == wanted and status == 0, got)
     for words, reply in (1024, "number 2"), (1025, "refused 5"):
-        line = b"define a " + class_p(b"A", 8 * (words - 20)).hex().encode()
-        got, _, _ = run(program, b"geometry 3 1 256\nloader a\n" + line + b"\n")
-        checks.check(got == ["number 1", reply], f"a record of {words} words: {got}")
+        line = b"define a " + harness.padded(b"A", 8 * (words - 20)).hex().encode()
+        got, _, _ = harness.simulated(program, b"geometry 3 1 256\nloader a\n" + line + b"\n")
+        checks.check(f"a record of {words} words", got == ["number 1", reply], got)
 
 
 # ---- names that take two slots
@@ -783,8 +739,8 @@ def check_long_names(checks, program):
     wanted = [f"number {number}" for number in range(1, 41)]
     wanted += ["group 1 32", "group 33 40", "none"]
     wanted += [*["working"] * 3, "done 32", *["working"] * 3, "done 40", "idle"]
-    got, status, _ = run(program, b"\n".join(lines))
-    checks.check(got == wanted and status == 0, f"40 long names at once: {got}")
+    got, status, _ = harness.simulated(program, b"\n".join(lines))
+    checks.check("40 long names at once", got == wanted and status == 0, got)
     lines, wanted = [b"geometry 3 1 256"], []
     for number, name in enumerate(names, 1):
         lines += [b"loader " + name.rjust(96, b"l"), b"seal"] + [b"advance"] * 4 + [b"learn"]
@@ -797,14 +753,14 @@ def check_long_names(checks, program):
                         (b"loader " + b"a" * 48, "number 67"), (b"loader b", "refused 7")):
         lines.append(line)
         wanted.append(reply)
-    got, status, _ = run(program, b"\n".join(lines))
-    checks.check(got == wanted and status == 0, f"64 long names: {got[-12:]}")
+    got, status, _ = harness.simulated(program, b"\n".join(lines))
+    checks.check("64 long names", got == wanted and status == 0, got[-12:])
     for count, other, groups in (63, 96, ["group 1 63", "group 64 64"]), \
             (63, 48, ["group 1 64", "none"]), (62, 96, ["group 1 63", "none"]):
         lines = [b"geometry 3 1 256"] + [b"loader l%d" % number for number in range(count)]
         lines += [b"loader " + b"a" * other, b"seal", b"seal"]
-        got, _, _ = run(program, b"\n".join(lines))
-        checks.check(got[-2:] == groups, f"{count} names and one of {other} bytes: {got[-2:]}")
+        got, _, _ = harness.simulated(program, b"\n".join(lines))
+        checks.check(f"{count} names and one of {other} bytes", got[-2:] == groups, got[-2:])
 
 
 # ---- lines that are no event
@@ -823,23 +779,24 @@ def check_forms(checks, program):
     for line in bad:
         for before in 0, 3:
             text = first + b"seal\n" * before + line + b"\nlearn\nnone of it\n"
-            got, status, errors = run(program, text)
+            got, status, errors = harness.simulated(program, text)
             right = status == 2 and not got and re.search(rf"\b{before + 2}\b", errors)
-            checks.check(right,
-                         f"line {line!r} as number {before + 2}: status {status}, {errors!r}")
+            checks.check(f"line {line!r} as number {before + 2}", right,
+                         f"status {status}, {errors!r}")
     for line in [b"", b"geometry", b"geometry 3 1", b"geometry 3 1 256 1", b"geometry 2 1 256",
                  b"geometry 13 1 256", b"geometry 3 0 256",
                  b"geometry 3 257 256", b"geometry 3 1 255", b"geometry 3 1 65537",
                  b"geometry 3 1 4294967552", b"geometry  3 1 256", b"seal"]:
         for rest in b"", b"\nseal\n":
-            got, status, errors = run(program, line + rest)
-            checks.check(status == 2 and not got and re.search(r"\b1\b", errors),
-                         f"first line {line!r}: status {status}, {errors!r}")
+            got, status, errors = harness.simulated(program, line + rest)
+            checks.check(f"first line {line!r}",
+                         status == 2 and not got and re.search(r"\b1\b", errors),
+                         f"status {status}, {errors!r}")
     good = [b"geometry 12 256 65536", b"geometry 3 1 256\nloader a",
             b"geometry 003 1 256\nfault 18446744073709551615\ncrash 0 fF\n"]
     for text, wanted in zip(good, ([], ["number 1"], ["armed", "opened 0"])):
-        got, status, _ = run(program, text)
-        checks.check(got == wanted and status == 0, f"{text!r}: status {status}, {got}")
+        got, status, _ = harness.simulated(program, text)
+        checks.check(f"{text!r}", got == wanted and status == 0, f"status {status}, {got}")
 
 
 # ---- the file of the disk
@@ -872,39 +829,37 @@ def check_disk(checks, program):
                   + slot(0x02, at_0_1=0xa5, at_2_2=1, at_8_8=2) + slot(0x13, at_8_8=1))
     long_file = superblock + slots + bytes(2 * 256 * 64 - len(slots))
     lines = b"geometry 3 2 256\nloader app\nseal\nadvance\nadvance\nadvance\nadvance\n"
-    with tempfile.TemporaryDirectory() as folder:
+    with harness.new_folder() as folder:
         path = os.path.join(folder, "disk")
-        _, status, _ = run(program, lines, "--disk", path)
-        with open(path, "rb") as held:
-            checks.check(status == 0 and held.read() == file, "the file after one loader")
+        _, status, _ = harness.simulated(program, lines, "--disk", path)
+        checks.check("the file after one loader", status == 0 and harness.read(path) == file)
         words = b"loader", b"unload"
-        run(program, b"geometry 3 2 256\n" + b"".join(
+        harness.simulated(program, b"geometry 3 2 256\n" + b"".join(
             word + b" " + b"m" * 49 + b"\nseal\n" + b"advance\n" * 4 for word in words),
-            "--disk", path)
-        with open(path, "rb") as held:
-            checks.check(held.read() == long_file, "the file after a loader of a long name")
-        run(program, lines + b"define app " + class_a().hex().encode()
-            + b"\nseal\nadvance\nfault 0\n", "--disk", path)
-        with open(path, "rb") as held:
-            checks.check(held.read() == file + bytes(8192), "the file after one loader and a root")
+                          "--disk", path)
+        checks.check("the file after a loader of a long name", harness.read(path) == long_file)
+        harness.simulated(program, lines + harness.text_of(
+            [harness.define(b"app", A), b"seal", b"advance", b"fault 0"]), "--disk", path)
+        checks.check("the file after one loader and a root",
+                     harness.read(path) == file + bytes(8192))
         check_places(checks, program, path)
-        _, status, errors = run(program, lines, "--disk", os.path.join(folder, "no", "disk"))
-        checks.check(status == 3 and errors, f"a path in no folder: status {status}")
-    _, status, errors = run(program, lines, "--disc", "x")
-    checks.check(status == 2 and errors, f"a word that isn't known: status {status}")
-    got, status, errors = run(program, lines, "--help")
-    checks.check(status == 0 and any("--disk" in line for line in got) and not errors,
-                 f"help: status {status}")
+        _, status, errors = harness.simulated(program, lines, "--disk", f"{folder}/no/disk")
+        checks.check("a path in no folder", status == 3 and errors, f"status {status}")
+    _, status, errors = harness.simulated(program, lines, "--disc", "x")
+    checks.check("a word that isn't known", status == 2 and errors, f"status {status}")
+    got, status, errors = harness.simulated(program, lines, "--help")
+    checks.check("help", status == 0 and any("--disk" in line for line in got) and not errors,
+                 f"status {status}")
 
 
 def check_places(checks, program, path):
     """Where the classes of a loader lie before its last chunk moves, and after that."""
     simulation = before_move(ONE_MOVES)
     for at in 256, 128:
-        run(program, simulation.text(), "--disk", path)
+        harness.simulated(program, simulation.text(), "--disk", path)
         lines = [b"loader app", b"class A words 20 root 0 at 0",
                  b"class B words 128 root 0 at %d" % at]
-        checks.check(list(region.read(path).listed()) == lines, f"class B lies at {at}")
+        checks.check(f"class B lies at {at}", list(region.read(path).listed()) == lines)
         if at == 256:
             store(handed_out(simulation))
 
@@ -945,27 +900,27 @@ def is_true(simulation, replies):
     return len(replies) == len(simulation.events)
 
 
-def sweep(checks, program, library, wanted):
-    simulation = sweep_script()
-    told = set()
+def sweep(checks, program, wanted, folder):
+    simulation, told = sweep_script(), set()
+    env = {"LD_PRELOAD": harness.library("allocations"), "ALLOCATIONS": f"{folder}/counts"}
     for refuse in range(1, MOST_ALLOCATIONS):
-        with tempfile.NamedTemporaryFile() as counts:
-            got, status, errors = run(program, simulation.text(), LD_PRELOAD=library,
-                                      ALLOCATIONS=counts.name, REFUSE=str(refuse))
-            refused = struct.unpack("3Q", counts.read(24))[2]
+        got, status, errors = harness.simulated(program, simulation.text(),
+                                                env={**env, "REFUSE": str(refuse)})
         right = is_true(simulation, got) if status == 0 else status == 3 and not got and errors
-        checks.check(right, f"with allocation {refuse} refused: status {status}, {errors!r}, {got}")
+        checks.check(f"with allocation {refuse} refused", right,
+                     f"status {status}, {errors!r}, {got}")
         told |= {"refused 9", "device"} & set(got) if status == 0 else {status}
-        if not refused:
+        if not harness.refusals(env["ALLOCATIONS"]):
             break
-    checks.check(told == {"refused 9", "device", 3}, f"refused allocations are reported as {told}")
-    checks.check(refuse - 1 == wanted, f"{refuse - 1} refusals were met, and not {wanted}")
+    checks.check("how refused allocations are reported", told == {"refused 9", "device", 3}, told)
+    checks.check(f"{wanted} refusals are met", refuse - 1 == wanted, f"{refuse - 1} are")
 
 
 def main(words):
-    checks = Checks()
-    if len(words) == 3:
-        sweep(checks, words[0], words[1], int(words[2]))
+    checks = harness.Checks()
+    if len(words) == 2:
+        with harness.new_folder() as folder:
+            sweep(checks, words[0], int(words[1]), folder)
     else:
         met = check_lists(checks, words[0])
         print(f"{LISTS} event lists:",
@@ -973,8 +928,7 @@ def main(words):
         for check in (check_walks, check_moves, check_move_waits, check_move_grows, check_trims,
                       check_region, check_long_names, check_forms, check_disk):
             check(checks, words[0])
-    print(f"{checks.passed} passed, {checks.failed} failed")
-    return 1 if checks.failed else 0
+    return checks.finish()
 
 
 if __name__ == "__main__":

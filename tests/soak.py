@@ -9,18 +9,16 @@ others, except for the numbers, which have to be 1 to the last, each once, and t
 thread. The file, read by region.py, checked and listed by the program, has to hold what all threads
 have in the end. It is so small that checkpoints come again and again.
 """
-import os
-import subprocess
 import sys
-import tempfile
 
+import harness
 import oracle
 import region
 import runs
 
 # There is always room for all classes of all loaders.
 GEOMETRY = oracle.Geometry(top=3, roots=256, slots=512)
-CLASSES = [runs.padded(name, zeros) for name in runs.CLASSES for zeros in (0, 100, 3000)]
+CLASSES = [harness.padded(name, zeros) for name in runs.CLASSES for zeros in (0, 100, 3000)]
 HEX = [data.hex().encode() for data in CLASSES]
 NAMES = [name for name in runs.CLASSES for _ in range(3)]
 
@@ -76,9 +74,9 @@ def check_threads(checks, threads):
     return state
 
 
-def parse(out):
+def parse(lines):
     """The output of each thread, and the last line."""
-    *body, last = out.split(b"\n")[:-1]
+    *body, last = lines
     threads = []
     for line in body:
         if line == b"thread":
@@ -88,15 +86,18 @@ def parse(out):
     return [Told(lines) for lines in threads], last
 
 
+def new_file(checks, program, path):
+    made = harness.run(program, runs.format_words(path, GEOMETRY))
+    checks.check("format", made == ([b"ok"], 0, ""), f"{made}")
+
+
 def soak(checks, program, bench, path, count, seconds):
-    words = ["--top", str(GEOMETRY.top), "--roots", str(GEOMETRY.roots),
-             "--slots", str(GEOMETRY.slots)]
-    checks.check("format", runs.run(program, ["format", path, *words]) == ([b"ok"], 0, ""))
-    stream = b"".join(len(data).to_bytes(4, "big") + data for data in CLASSES)
-    ran = subprocess.run([bench, "soak", path, "--threads", str(count), "--seconds", str(seconds)],
-                         input=stream, stdout=subprocess.PIPE, stderr=subprocess.PIPE, check=False)
-    checks.check("the soak ends", (ran.returncode, ran.stderr) == (0, b""), f"{ran!s:.200}")
-    threads, last = parse(ran.stdout)
+    new_file(checks, program, path)
+    lines, *ends = harness.run(
+        bench, ["soak", path, "--threads", str(count), "--seconds", str(seconds)],
+        harness.stream_of(CLASSES), seconds=harness.TIME_LIMIT + seconds)
+    checks.check("the soak ends", ends == [0, ""], f"{ends!s:.200}")
+    threads, last = parse(lines)
     checks.check("all threads have output", len(threads) == count)
     state = check_threads(checks, threads)
     numbers = sorted(number for told in threads for number in told.numbers)
@@ -111,8 +112,8 @@ def soak(checks, program, bench, path, count, seconds):
 
 
 def main(program, bench, count, seconds):
-    checks = runs.Checks()
-    with tempfile.TemporaryDirectory(dir=os.environ.get("WORK")) as folder:
+    checks = harness.Checks()
+    with harness.new_folder() as folder:
         soak(checks, program, bench, f"{folder}/cache", count, seconds)
     return checks.finish()
 

@@ -11,11 +11,9 @@ its last number says.
 """
 import os
 import random
-import subprocess
 import sys
-import tempfile
-import threading
 
+import harness
 import oracle
 import region
 import runs
@@ -46,21 +44,6 @@ def parse(lines):
         thread, rest = line.split(b" ", 1)
         threads.setdefault(int(thread), Killed()).add(rest)
     return threads
-
-
-def killed(words, stream, delay, env=None):
-    """Runs the program and kills it this many seconds after its first line: its whole lines of
-    output, and whether the kill hit it."""
-    with open(stream, "rb") as given:
-        process = subprocess.Popen(words, stdin=given, stdout=subprocess.PIPE,
-                                   stderr=subprocess.DEVNULL, env=env)
-    first = process.stdout.readline()
-    timer = threading.Timer(delay, process.kill)
-    timer.start()
-    out = first + process.stdout.read()
-    status = process.wait()
-    timer.cancel()
-    return out.split(b"\n")[:-1], status == -9
 
 
 def with_call(cache, asked):
@@ -109,25 +92,16 @@ def check_file(checks, name, path, threads):
     return len(numbers), stored - len(numbers)
 
 
-def new_file(checks, program, folder):
-    """A new file, and one with the classes that the threads define."""
-    path, stream = f"{folder}/cache", f"{folder}/classes"
-    words = ["--top", str(soak.GEOMETRY.top), "--roots", str(soak.GEOMETRY.roots),
-             "--slots", str(soak.GEOMETRY.slots)]
-    checks.check("format", runs.run(program, ["format", path, *words]) == ([b"ok"], 0, ""))
-    with open(stream, "wb") as out:
-        out.write(b"".join(len(data).to_bytes(4, "big") + data for data in soak.CLASSES))
-    return path, stream
-
-
-def words_of(bench, path, count):
-    return [bench, "soak", path, "--live", "--threads", str(count), "--seconds", str(SECONDS)]
+def killed(bench, path, count, delay, env=None):
+    """Has threads define classes in the file, and kills them after this many seconds."""
+    words = [bench, "soak", path, "--live", "--threads", str(count), "--seconds", str(SECONDS)]
+    return harness.killed(words, harness.stream_of(soak.CLASSES), delay, env, at_first_line=True)
 
 
 def kill_once(checks, program, bench, folder, count, rng):
-    path, stream = new_file(checks, program, folder)
-    delay = rng.uniform(0, LONGEST)
-    lines, was_hit = killed(words_of(bench, path, count), stream, delay)
+    path, delay = f"{folder}/cache", rng.uniform(0, LONGEST)
+    soak.new_file(checks, program, path)
+    lines, was_hit = killed(bench, path, count, delay)
     name = f"killed after {delay:.3f} s"
     checks.check(f"{name}: it was running", was_hit)
     told = check_file(checks, name, path, parse(lines))
@@ -137,9 +111,9 @@ def kill_once(checks, program, bench, folder, count, rng):
 
 
 def main(program, bench, count, kills, seed):
-    checks, rng = runs.Checks(), random.Random(seed)
+    checks, rng = harness.Checks(), random.Random(seed)
     acknowledged = more = 0
-    with tempfile.TemporaryDirectory(dir=os.environ.get("WORK")) as folder:
+    with harness.new_folder() as folder:
         for _ in range(kills):
             told = kill_once(checks, program, bench, folder, count, rng)
             acknowledged += told[0]

@@ -11,6 +11,8 @@ import re
 import sys
 from pathlib import Path
 
+import harness
+
 COLUMNS = 100
 # What rt fmt keeps in one line: an import of one name, and an attribute.
 UNBROKEN = re.compile(r"\s*(((pub|ghost) )*use [^,]*|#\[.*\])$")
@@ -156,19 +158,9 @@ def words():
 
 
 def main():
-    passed = failed = 0
-    for look in (columns, planted, laws, lemmas, words):
-        looked = list(look())
-        if not looked:
-            failed += 1
-            print(f"FAILED: nothing to check: {look.__doc__}")
-        for is_so, what in looked:
-            passed += is_so
-            failed += not is_so
-            if not is_so:
-                print(f"FAILED: {what}")
-    print(f"{passed} passed, {failed} failed")
-    return failed > 0
+    checks = harness.Checks()
+    checks.check_all([columns, planted, laws, lemmas, words])
+    return checks.finish()
 
 
 if __name__ == "__main__":

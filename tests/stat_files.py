@@ -11,14 +11,12 @@ program.
 import json
 import random
 import string
-import subprocess
 import sys
-import tempfile
 
 import check
+import harness
 import oracle
 import region
-import runs
 
 WORD = 8
 LETTERS = [bytes([letter]) for letter in string.ascii_letters.encode()]
@@ -38,7 +36,7 @@ def long_script(draw):
             lines.append(f"loader {draw.choice([name, name * 60])}")
         else:
             size = draw.choice([120, 400, 900, 2000, 7000])
-            data = runs.padded(LETTERS[number], size).hex()
+            data = harness.padded(LETTERS[number], size).hex()
             lines.append(f"define {name} {data}")
     return "".join(f"{line}\n" for line in lines)
 
@@ -134,31 +132,22 @@ def wanted(data):
 
 # ---- comparing
 
-def run(program, *words):
-    done = subprocess.run([program, *words], stdin=subprocess.DEVNULL, capture_output=True,
-                          check=False)
-    return done.stdout.decode(), done.returncode, done.stderr.decode()
-
-
-def differs(program, data):
+def differs(program, path, data):
     """What is wrong of what the program says of a file; None if nothing is."""
-    with tempfile.NamedTemporaryFile() as file:
-        file.write(data)
-        file.flush()
-        text, status, errors = run(program, file.name)
-        json_text, json_status, json_errors = run(program, file.name, "--json")
-        file.seek(0)
-        if file.read() != data:
-            return "the file was changed"
-    want, found, want_status = wanted(data)
-    if (text, status, errors) != (want, want_status, ""):
-        return f"said {text!r} ({status}, {errors!r}), wanted {want!r} ({want_status})"
+    harness.write(path, data)
+    told = harness.ran([program, path])
+    text, *ends = harness.ran([program, path, "--json"])
+    if harness.read(path) != data:
+        return "the file was changed"
+    want, found, status = wanted(data)
+    if told != (want.encode(), status, ""):
+        return f"said {told}, wanted {want!r} ({status})"
     if found is None:
-        said = json_text == want
+        said = text == want.encode()
     else:
-        said = json_text.endswith("\n") and json.loads(json_text) == found
-    if not said or (json_status, json_errors) != (want_status, ""):
-        return f"said as JSON {json_text!r} ({json_status}), wanted {found!r}"
+        said = text.endswith(b"\n") and json.loads(text) == found
+    if not said or ends != [status, ""]:
+        return f"said as JSON {text!r} ({ends}), wanted {found!r}"
     return None
 
 
@@ -178,17 +167,12 @@ def files(count, draw):
 
 
 def main(program, count, seed):
-    draw = random.Random(seed)
-    passed = failed = 0
-    for number, data in enumerate(files(count, draw)):
-        wrong = differs(program, data)
-        if wrong:
-            failed += 1
-            print(f"FAILED: file {number} of seed {seed}: {wrong}")
-        else:
-            passed += 1
-    print(f"{passed} passed, {failed} failed")
-    return failed > 0
+    draw, checks = random.Random(seed), harness.Checks()
+    with harness.new_folder() as folder:
+        for number, data in enumerate(files(count, draw)):
+            wrong = differs(program, f"{folder}/file", data)
+            checks.check(f"file {number} of seed {seed}", not wrong, wrong)
+    return checks.finish()
 
 
 if __name__ == "__main__":

@@ -6,8 +6,8 @@
 # shellcheck disable=SC2030,SC2031,SC2154
 
 # Loaded before a program, it counts the allocations and refuses one of them.
-library=$work/allocations.so
-if ! cc -O2 -Wall -Werror -shared -fPIC -o "$library" "$top/tests/allocations.c"; then
+library=$(compile_library allocations)
+if [ ! -f "$library" ]; then
     echo "0 passed, 1 failed"
     exit 1
 fi

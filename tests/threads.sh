@@ -11,19 +11,13 @@ set -u
 cd "$(dirname "$0")/.." || exit 1
 . tests/lib.sh
 
-library=$work/calls.so
-if ! cc -O2 -Wall -Werror -shared -fPIC -o "$library" tests/calls.c; then
-    echo "0 passed, 1 failed"
-    exit 1
-fi
 seed=${SEED:-$RANDOM}
 
 # The machine doesn't stop during these scripts, so they needn't wait for a disk.
 quick=$work
 [ -w /dev/shm ] && quick=$(mktemp -d -p /dev/shm)
 trap 'rm -rf "$work" "$quick"' EXIT
-WORK=$quick python3 tests/threads.py "$(executable)" "$library" "${SCRIPTS:-1000}" "$seed" \
-    >"$work/told"
+WORK=$quick python3 tests/threads.py "$(executable)" "${SCRIPTS:-1000}" "$seed" >"$work/told"
 check_last "scripts with workers"
 cat "$work/told"
 
@@ -42,8 +36,8 @@ WORK=$quick python3 tests/soak_kill.py "$(executable)" "$bench" 16 "${KILLS:-50}
 check_last "sixteen threads on one file that are killed"
 cat "$work/told"
 
-WORK=$quick python3 tests/soak_stop.py "$(executable)" "$bench" "$library" 16 "${MOMENTS:-50}" \
-    "$seed" >"$work/told"
+WORK=$quick python3 tests/soak_stop.py "$(executable)" "$bench" 16 "${MOMENTS:-50}" "$seed" \
+    >"$work/told"
 check_last "sixteen threads on one file of a machine that stops"
 cat "$work/told"
 

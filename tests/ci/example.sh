@@ -1,14 +1,13 @@
 #!/usr/bin/env bash
 # The library's example on a file, and on one whose device fails at each of its calls in turn: then
 # it ends with status 3 and says why, and the file holds at least what it said is stored. Needs a C
-# compiler.
+# compiler and Python 3.
 set -u
 cd "$(dirname "$0")/../.." || exit 1
 . tests/lib.sh
 
 example=crates/cm_example/out/cm_example
-library=$work/calls.so
-cc -O2 -Wall -Werror -shared -fPIC -o "$library" tests/calls.c
+library=$(compile_library calls)
 check_last "tests/calls.c is compiled"
 
 # run_example [NAME=VALUE..]: the example on $work/cache.

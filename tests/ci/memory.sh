@@ -5,7 +5,7 @@
 # arena or a store that isn't as it was before the failed call gives other results, and so does a
 # reader that returns `NoMemory` in place of a fault.
 #
-# Needs a C compiler.
+# Needs a C compiler and Python 3.
 
 # Each sweep counts in a subshell of its own, with a folder of its own.
 # shellcheck disable=SC2030,SC2031
