@@ -5,32 +5,37 @@ says how such a file is read; this reads only half 0 of its journal.
 
     bench/records.py FILE
 """
+import os
 import struct
 import sys
 
-SUPERBLOCK, SLOT, OPEN = 4096, 64, 0xA5
-HALF_HEAD, GROUP_HEAD, CLASS = 1, 2, 0x12
+sys.path.insert(0, os.path.join(os.path.dirname(os.path.abspath(__file__)), "..", "tests"))
+import harness
+import oracle
+import region
+
+
+def slots_of_classes(data, slots):
+    """The slots of half 0 in which a class is defined."""
+    at = region.SUPERBLOCK
+    end = at + region.SLOT * slots
+    assert data[at] == region.OPEN and data[at + 1] == region.HEAD, "half 0 doesn't count"
+    at += region.SLOT
+    while at < end and data[at] == region.OPEN and data[at + 1] == region.GROUP:
+        group = range(at + region.SLOT, at + region.SLOT * (1 + region.number(data, at + 2, 2)),
+                      region.SLOT)
+        yield from (entry for entry in group if data[entry + 1] == region.DEFINE)
+        at = group.stop
 
 
 def main(path):
-    with open(path, "rb") as file:
-        data = file.read()
-    top, _roots, slots = struct.unpack_from("<3I", data, 12)
-    roots_at = SUPERBLOCK + 2 * SLOT * slots
-    root_bytes = 8 * 128 * 2**top
-    at, end = SUPERBLOCK, SUPERBLOCK + SLOT * slots
-    assert data[at] == OPEN and data[at + 1] == HALF_HEAD, "half 0 doesn't count"
-    at += SLOT
-    while at < end and data[at] == OPEN and data[at + 1] == GROUP_HEAD:
-        (count,) = struct.unpack_from("<H", data, at + 2)
-        for entry in range(at + SLOT, at + SLOT * (count + 1), SLOT):
-            if data[entry + 1] == CLASS:
-                (words,) = struct.unpack_from("<I", data, entry + 4)
-                root, _order, place, offset = struct.unpack_from("<4I", data, entry + 16)
-                record = roots_at + root * root_bytes + 8 * (place + offset)
-                sys.stdout.buffer.write(struct.pack(">IQ", 8 * words, record)
-                                        + data[record : record + 8 * words])
-        at += SLOT * (count + 1)
+    data = harness.read(path)
+    geometry = oracle.Geometry(*struct.unpack_from("<3I", data, 12))
+    for slot in slots_of_classes(data, geometry.slots):
+        words, _, root, _, place, offset = struct.unpack_from("<IQIIII", data, slot + 4)
+        record = region.root_at(geometry, root) + 8 * (place + offset)
+        sys.stdout.buffer.write(struct.pack(">IQ", 8 * words, record)
+                                + data[record:record + 8 * words])
 
 
 if __name__ == "__main__":
