@@ -26,9 +26,7 @@ CMCACHE=$(executable)
 export CMCACHE
 
 # Where the machine doesn't stop, files needn't wait for a disk.
-quick=$work
-[ -w /dev/shm ] && quick=$(mktemp -d -p /dev/shm)
-trap 'rm -rf "$work" "$quick"' EXIT
+quick_folder
 
 # For the programs that are built with it.
 export TSAN_OPTIONS=suppressions=tests/c/tsan.supp
@@ -39,13 +37,8 @@ build() {
     check_last "$1 is compiled by $3"
 }
 
-# passes NAME WORD..: a run of other tests, whose output is printed.
-passes() {
-    WORK=$quick "${@:2}" >"$work/told" 2>&1
-    check_last "$1"
-    grep -v -e "$left_out" "$work/told" | tail -n 20
-}
-left_out="the sources of this checkout are newer"
+# passes NAME WORD..: runs other tests, and counts the same.
+passes() { WORK=$quick counted "$@"; }
 
 # has WORD: whether the command is installed; says what is left out if not.
 has() {
@@ -177,11 +170,9 @@ fi
 # ---- refused memory: one allocation after another
 
 . tests/sweeps.sh
-a=cafebabe0000003400050700020100014107000401
-a+=00106a6176612f6c616e672f4f626a6563740021000100030000000000000000
-printf '%s\n' 'loader app' "define app $a" 'loader ext' "define ext $a" 'find app A' 'loader app' \
-    'unload app' 'find app A' 'tighten ext' 'find ext A' 'unloadall ext app' 'unloadall app app' \
-    'find ext A' >"$work/commands"
+printf '%s\n' 'loader app' "define app $class_a" 'loader ext' "define ext $class_a" 'find app A' \
+    'loader app' 'unload app' 'find app A' 'tighten ext' 'find ext A' 'unloadall ext app' \
+    'unloadall app app' 'find ext A' >"$work/commands"
 # sweep SCRIPT WORD..
 sweep() {
     WORK=$work tests/refused_memory.py "$script" any "${@:2}" <"$1"

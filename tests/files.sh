@@ -7,16 +7,6 @@ set -u
 cd "$(dirname "$0")/.." || exit 1
 . tests/lib.sh
 
-a=cafebabe0000003400050700020100014107000401
-a+=00106a6176612f6c616e672f4f626a6563740021000100030000000000000000
-
-# padded X M: class A with another name of one letter, and an attribute of M zeros.
-padded() {
-    printf 'cafebabe000000340006070002010001%02x' "'$1"
-    printf '0700040100106a6176612f6c616e672f4f626a65637401000158'
-    printf '002100010003000000000000000100''05%08x' "$2"
-    [ "$2" = 0 ] || printf '00%.0s' $(seq "$2")
-}
 
 # expect: the replies to the lines of $work/in after those of $work/before, on one file.
 expect() {
@@ -92,7 +82,7 @@ check "the second example once more" 1
 check_file "the bytes after that" "$cache"
 
 {
-    printf 'loader a\nfind a A\ndefine a %s\nunload a\nfind a A\nunload a\n' "$a"
+    printf 'loader a\nfind a A\ndefine a %s\nunload a\nfind a A\nunload a\n' "$class_a"
     printf 'loader a\ndefine a %s\nfind a A\n' "$(padded A 0)"
     printf 'unload\nunload a b\nunload \nunload a\xff\n'
     printf 'unload 0123456789012345678901234567890123456789012345678\n'
@@ -114,7 +104,7 @@ check_file "looking up changes nothing" "$cache"
 trimmed=$work/trimmed
 : >"$work/in"
 run format "$trimmed"
-printf 'loader a\ndefine a %s\n' "$a" >"$work/in"
+printf 'loader a\ndefine a %s\n' "$class_a" >"$work/in"
 run apply "$trimmed"
 check_size "a first class" "$trimmed" 790528
 run trim "$trimmed"
@@ -128,7 +118,7 @@ check_says "a root that is not in use goes" 0 "roots 0"
 check_size "a file without roots" "$trimmed" 528384
 run check "$trimmed"
 check_says "a trimmed file" 0 "ok loaders 0 classes 0 chunks 0 number 3"
-printf 'loader b\ndefine b %s\n' "$a" >"$work/in"
+printf 'loader b\ndefine b %s\n' "$class_a" >"$work/in"
 run apply "$trimmed"
 check_size "a class after a trim" "$trimmed" 790528
 run check "$trimmed"
@@ -217,7 +207,7 @@ utf8=$(printf '61%.0s' $(seq 65535))
 {
     printf 'loader a\ndefine a %s\ndefine a %s\ndefine a %s\ndefine a %s\n' \
         "$(padded A 864)" "$(padded B 865)" "$(padded C 8032)" "$(padded D 8033)"
-    long=${a/00340005/00340006} # its name is E
+    long=${class_a/00340005/00340006} # its name is E
     long=${long/01000141/01000145}
     printf 'define a %s\n' "${long/4f626a656374/4f626a65637401ffff$utf8}"
 } >"$work/in"
@@ -260,7 +250,7 @@ cp examples/first.txt "$work/in"
 for gate in A4 00 FF A5; do
     rm -f "$small"
     python3 tests/region.py after <"$work/in" >"$small"
-    printf '%b' "\x$gate" | dd of="$small" bs=1 seek=$((4096 + 64 * 3)) conv=notrunc status=none
+    put "$small" $((4096 + 64 * 3)) "\x$gate"
     printf 'find app A\nloader app\n' >"$work/in2"
     if [ $gate = A5 ]; then
         printf '%s\n' 'class A flags 0021 super java/lang/Object words 16' \
@@ -276,9 +266,9 @@ done
 # ---- files of version 1 are upgraded
 
 older() { # FILE: a file of two loaders and three classes, whose half is of the version before
-    printf 'loader a\ndefine a %s\nloader b\ndefine a %s\ndefine b %s\nunload b\n' "$a" \
-        "$(padded B 0)" "$a" | python3 tests/region.py after >"$1"
-    printf '%b' '\x01' | dd of="$1" bs=1 seek=4098 conv=notrunc status=none
+    printf 'loader a\ndefine a %s\nloader b\ndefine a %s\ndefine b %s\nunload b\n' "$class_a" \
+        "$(padded B 0)" "$class_a" | python3 tests/region.py after >"$1"
+    put "$1" 4098 '\x01'
 }
 older "$work/older"
 python3 tests/region.py opened "$work/older" >"$work/moved"
@@ -327,11 +317,6 @@ check_last "what is upgraded is listed without a right to write"
 
 # ---- names that take two slots of the journal
 
-# name X N: a name of this many bytes.
-name() {
-    printf "$1%.0s" $(seq "$2")
-}
-
 long=$work/long
 : >"$work/in"
 run format "$long" --top 3 --roots 1 --slots 256
@@ -374,7 +359,7 @@ check_last "a checkpoint with long names: the file"
 spoiled() {
     printf 'loader %s\nloader %s\nloader a\n' "$(name m 49)" "$(name n 49)" |
         python3 tests/region.py after >"$work/spoiled"
-    printf '%b' "$4" | dd of="$work/spoiled" bs=1 seek="$3" conv=notrunc status=none
+    put "$work/spoiled" "$3" "$4"
     run check "$work/spoiled"
     check_says "$1" 1 "$2"
     [ "$(python3 tests/region.py check "$work/spoiled")" = "$2" ]
@@ -394,11 +379,11 @@ spoiled "a continuation slot of its own" "damaged 5 8" $((4096 + 64 * 8 + 1)) '\
 spoiled "a group that ends before the continuation slot" "damaged 5 2" $((4096 + 64 + 2)) '\x01'
 spoiled "a name of 97 bytes" "damaged 5 5" $((4096 + 64 * 5 + 2)) 'a'
 python3 tests/region.py new 8 64 4096 >"$work/older"
-printf '\x01' | dd of="$work/older" bs=1 seek=4098 conv=notrunc status=none
+put "$work/older" 4098 '\x01'
 printf 'loader app\n' | python3 tests/region.py after >"$work/moved"
 tail -c +$((4096 + 64 + 1)) "$work/moved" |
     dd of="$work/older" bs=64 seek=65 conv=notrunc status=none
-printf '1' | dd of="$work/older" bs=1 seek=$((4096 + 64 * 2 + 2)) conv=notrunc status=none
+put "$work/older" $((4096 + 64 * 2 + 2)) 1
 run check "$work/older"
 check_says "a name of 49 bytes in a file of version 1" 1 "damaged 5 2"
 [ "$(python3 tests/region.py check "$work/older")" = "damaged 5 2" ]
@@ -408,9 +393,9 @@ check_last "a name of 49 bytes in a file of version 1: the verdict"
 
 : >"$work/in"
 damaged() { # NAME WORDS STATUS OFFSET BYTES..: a good file with bytes changed
-    printf 'loader a\ndefine a %s\ndefine a %s\n' "$a" "$(padded B 0)" |
+    printf 'loader a\ndefine a %s\ndefine a %s\n' "$class_a" "$(padded B 0)" |
         python3 tests/region.py after >"$work/damaged"
-    [ -n "$4" ] && printf '%b' "$5" | dd of="$work/damaged" bs=1 seek="$4" conv=notrunc status=none
+    put "$work/damaged" "$4" "$5"
     cp "$work/damaged" "$work/kept"
     run apply "$work/damaged"
     check_says "$1" "$3" "$2"
@@ -430,7 +415,7 @@ damaged "a loader's number" "damaged 6 2" 1 $((4096 + 64 * 2 + 8)) '\x02'
 damaged "another magic" "not a cache" 1 0 'X'
 damaged "a superblock's gate" "not a cache" 1 4095 '\x00'
 
-printf 'loader a\ndefine a %s\n' "$a" | python3 tests/region.py after >"$work/damaged"
+printf 'loader a\ndefine a %s\n' "$class_a" | python3 tests/region.py after >"$work/damaged"
 truncate -s 528383 "$work/damaged"
 run apply "$work/damaged"
 check_says "a file that ends in its halves" 1 "damaged 2 0"
@@ -601,7 +586,7 @@ cp tests/data/narrow.txt "$work/before"
 {
     printf '%s\n' 'find app A' 'find ext A' 'find ext %C3%A9' \
         'find app org/eclipse/jetty/io/ByteArrayEndPoint' 'find empty A'
-    printf 'loader empty\ndefine app %s\nloader new\ndefine new %s\n' "$a" "$a"
+    printf 'loader empty\ndefine app %s\nloader new\ndefine new %s\n' "$class_a" "$class_a"
     printf '%s\n' 'unload app' 'find app A' 'find new A'
 } >"$work/in"
 expect

@@ -10,9 +10,7 @@ built=$(executable)
 memory=262144 # KiB
 length=68719476736
 
-a=cafebabe0000003400050700020100014107000401
-a+=00106a6176612f6c616e672f4f626a6563740021000100030000000000000000
-b=${a/01000141/01000142}
+b=${class_a/01000141/01000142}
 
 # limited WORD..: the program on $work/in, with that much memory.
 limited() {
@@ -41,7 +39,7 @@ lengthen() {
 limited format "$work/short"
 printf 'ok\n' >"$work/want"
 check "a file is made" 0
-printf 'loader a\ndefine a %s\nloader b\ndefine b %s\nunload b\n' "$a" "$b" >"$work/in"
+printf 'loader a\ndefine a %s\nloader b\ndefine b %s\nunload b\n' "$class_a" "$b" >"$work/in"
 limited apply "$work/short"
 printf 'ok 1\nok 2 A\nok 3\nok 4 B\nok 5\n' >"$work/want"
 check "a script on the short file" 0
@@ -82,7 +80,7 @@ same "check of zeros" check
 
 limited format "$work/damaged"
 cp "$work/damaged" "$work/short"
-printf '\377' | dd of="$work/short" bs=1 seek=4100 conv=notrunc status=none
+put "$work/short" 4100 '\xff'
 lengthen
 same "check of a damaged head" check
 same "apply to a damaged head" apply
@@ -97,7 +95,7 @@ check "a file of the largest region is made" 0
 lengthen
 same "check of the largest region" check
 same "list of the largest region" list
-printf 'loader a\ndefine a %s\nfind a A\n' "$a" >"$work/in"
+printf 'loader a\ndefine a %s\nfind a A\n' "$class_a" >"$work/in"
 same "apply to the largest region" apply
 [ "$(sed -n 2p "$work/got")" = "ok 2 A" ]
 check_last "a class is defined in the largest region"

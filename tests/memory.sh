@@ -15,11 +15,9 @@ cd "$(dirname "$0")/.." || exit 1
 
 # The program: making a file, and scripts with commands that are accepted and refused, and look-ups,
 # in memory and on a file.
-a=cafebabe0000003400050700020100014107000401
-a+=00106a6176612f6c616e672f4f626a6563740021000100030000000000000000
 built=$(executable)
 {
-    printf 'loader app\ndefine app %s\nloader ext\ndefine ext %s\n' "$a" "$a"
+    printf 'loader app\ndefine app %s\nloader ext\ndefine ext %s\n' "$class_a" "$class_a"
     printf '%s\n' 'find app A' 'loader app' 'unload app' 'find app A' 'tighten ext' 'find ext A' \
         'unloadall ext app' 'unloadall app app' 'find ext A'
 } >"$work/script"
@@ -62,15 +60,15 @@ asks() {
     [ "$status" = 0 ] && [ "$most" -le 4096 ] && grep -q "faults $3" "$work/got"
     check_last "$1: $most bytes were asked for at once"
 }
-asks "class A" "$a" 0
+asks "class A" "$class_a" 0
 asks "65,535 constants" cafebabe00000034ffff 1
 asks "a Utf8 of 65,535 bytes" cafebabe0000003400050100ffff 1
-asks "65,535 interfaces" "${a%0000000000000000}ffff" 1
-asks "65,535 fields" "${a%000000000000}ffff" 1
-asks "65,535 methods" "${a%00000000}ffff" 1
-asks "65,535 attributes" "${a%0000}ffff" 1
-asks "a field with 65,535 attributes" "${a%000000000000}0001000100020002ffff" 1
-asks "a method with 65,535 attributes" "${a%00000000}0001000100020002ffff" 1
-asks "an attribute of 4 GiB" "${a%0000}00010002ffffffff" 1
+asks "65,535 interfaces" "${class_a%0000000000000000}ffff" 1
+asks "65,535 fields" "${class_a%000000000000}ffff" 1
+asks "65,535 methods" "${class_a%00000000}ffff" 1
+asks "65,535 attributes" "${class_a%0000}ffff" 1
+asks "a field with 65,535 attributes" "${class_a%000000000000}0001000100020002ffff" 1
+asks "a method with 65,535 attributes" "${class_a%00000000}0001000100020002ffff" 1
+asks "an attribute of 4 GiB" "${class_a%0000}00010002ffffffff" 1
 
 finish

@@ -4,8 +4,6 @@
 set -u
 . "$(dirname "$0")/lib.sh"
 
-a=cafebabe0000003400050700020100014107000401
-a+=00106a6176612f6c616e672f4f626a6563740021000100030000000000000000
 
 cp "$top/examples/first.txt" "$work/in"
 printf 'ok 1\nok 2 A\nclass A flags 0021 super java/lang/Object words 16\n' >"$work/want"
@@ -47,7 +45,6 @@ printf 'refused 1 name\nnone\nok 1\n' >"$work/want"
 run apply --memory
 check "bytes that aren't UTF-8" 1
 
-name() { printf "$1%.0s" $(seq "$2"); } # X N: a name of this many bytes
 for bytes in 47 48 49 95 96 97; do echo "loader $(name m $bytes)"; done >"$work/in"
 {
     echo "find $(name m 97) A"
@@ -65,15 +62,15 @@ check "names of 47 to 97 bytes" 1
 
 {
     echo "loader app"
-    echo "define app ${a}00"
-    echo "define app ${a%00}"
-    echo "define app cafebabe00030034${a#cafebabe00000034}"
-    echo "define app cafebabe00000035${a#cafebabe00000034}"
+    echo "define app ${class_a}00"
+    echo "define app ${class_a%00}"
+    echo "define app cafebabe00030034${class_a#cafebabe00000034}"
+    echo "define app cafebabe00000035${class_a#cafebabe00000034}"
     echo "define app"
     echo "define app zz"
-    echo "define nobody $a"
-    echo "define app $a"
-    echo "define app $a"
+    echo "define nobody $class_a"
+    echo "define app $class_a"
+    echo "define app $class_a"
 } >"$work/in"
 printf '%s\n' 'ok 1' 'refused 14 trailing 53' 'refused 14 truncated' 'refused 14 malformed 5' \
     'refused 14 malformed 7' 'refused 15 line' 'refused 15 line' 'refused 3 no loader' 'ok 2 A' \
@@ -81,7 +78,8 @@ printf '%s\n' 'ok 1' 'refused 14 trailing 53' 'refused 14 truncated' 'refused 14
 run apply --memory
 check "classes that are refused" 1
 
-printf 'loader a\nloader b\ndefine a %s\ndefine b %s\ndefine a %s\n' "$a" "$a" "$a" >"$work/in"
+printf 'loader a\nloader b\ndefine a %s\ndefine b %s\ndefine a %s\n' "$class_a" "$class_a" \
+    "$class_a" >"$work/in"
 printf 'ok 1\nok 2\nok 3 A\nok 4 A\nrefused 4 class exists\n' >"$work/want"
 run apply --memory
 check "one class in two loaders" 1
@@ -96,8 +94,8 @@ run apply --memory
 check "a name outside ASCII" 0
 
 {
-    printf '%s\n' 'unload app' 'loader app' "define app $a" 'unload app' 'find app A' \
-        'unload app' 'loader app' 'find app A' "define app $a"
+    printf '%s\n' 'unload app' 'loader app' "define app $class_a" 'unload app' 'find app A' \
+        'unload app' 'loader app' 'find app A' "define app $class_a"
     printf 'unload\nunload app ext\nunload  app\nunload app \nunload \xff\n'
     printf '%s\n' 'unload %41' 'loader %41' 'unload %41'
 } >"$work/in"
@@ -108,7 +106,7 @@ run apply --memory
 check "loaders that are unloaded" 1
 
 {
-    printf 'loader a\nloader b\ndefine a %s\ndefine b %s\n' "$a" "$a"
+    printf 'loader a\nloader b\ndefine a %s\ndefine b %s\n' "$class_a" "$class_a"
     printf '%s\n' 'unloadall a c' 'unloadall a a' 'unloadall b a' 'find a A'
     printf '%s\n' 'unloadall a b c d e f g h' 'unloadall' 'unloadall ' 'unloadall a  b' \
         'unloadall a '
@@ -121,14 +119,6 @@ printf '%s\n' 'ok 1' 'ok 2' 'ok 3 A' 'ok 4 A' 'refused 3 no loader' 'refused 16 
     >"$work/want"
 run apply --memory
 check "loaders that are unloaded at once" 1
-
-# padded X M: class A with another name of one letter, and an attribute of M zeros.
-padded() {
-    printf 'cafebabe000000340006070002010001%02x' "'$1"
-    printf '0700040100106a6176612f6c616e672f4f626a65637401000158'
-    printf '002100010003000000000000000100''05%08x' "$2"
-    [ "$2" = 0 ] || printf '00%.0s' $(seq "$2")
-}
 
 printf 'loader a\ndefine a %s\ndefine a %s\ntighten a\ntighten a\nfind a A\nfind a B\n' \
     "$(padded A 0)" "$(padded B 864)" >"$work/in"
@@ -146,7 +136,7 @@ for loader in a b; do
     for byte in $(seq 65 90) $(seq 97 120); do
         number=$((number + 1))
         # shellcheck disable=SC2059
-        printf "define $loader ${a/000141/0001$(printf %02x "$byte")}\n" >>"$work/in"
+        printf "define $loader ${class_a/000141/0001$(printf %02x "$byte")}\n" >>"$work/in"
         # shellcheck disable=SC2059
         printf "ok $number \\x$(printf %02x "$byte")\n" >>"$work/want"
     done
@@ -156,7 +146,7 @@ check "a hundred classes" 0
 
 {
     for i in $(seq 2050); do echo "loader l$i"; done
-    printf '%s\n' "define l1 $a" 'unload l2' "define l1 $a" 'loader l2'
+    printf '%s\n' "define l1 $class_a" 'unload l2' "define l1 $class_a" 'loader l2'
 } >"$work/in"
 {
     for i in $(seq 2048); do echo "ok $i"; done

@@ -7,15 +7,7 @@ cd "$(dirname "$0")/.." || exit 1
 . tests/lib.sh
 
 stat=${CM_STAT:-$(find_program cm_stat)} # CM_STAT names another build
-told=$(python3 tests/stat_files.py "$stat" "${FILES:-300}" "${SEED:-1}")
-printf '%s\n' "$told" | grep -v '^[0-9]* passed'
-if [[ "$(tail -n 1 <<<"$told")" =~ ^([0-9]+)\ passed,\ ([0-9]+)\ failed$ ]]; then
-    passed=$((passed + BASH_REMATCH[1]))
-    failed=$((failed + BASH_REMATCH[2]))
-else
-    failed=$((failed + 1))
-    echo "FAILED: tests/stat_files.py did not end"
-fi
+WORK=$work counted "files" python3 tests/stat_files.py "$stat" "${FILES:-300}" "${SEED:-1}"
 
 # stat ARGS..: the program.
 stat() {

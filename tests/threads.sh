@@ -12,33 +12,19 @@ cd "$(dirname "$0")/.." || exit 1
 . tests/lib.sh
 
 seed=${SEED:-$RANDOM}
-
-# The machine doesn't stop during these scripts, so they needn't wait for a disk.
-quick=$work
-[ -w /dev/shm ] && quick=$(mktemp -d -p /dev/shm)
-trap 'rm -rf "$work" "$quick"' EXIT
-WORK=$quick python3 tests/threads.py "$(executable)" "${SCRIPTS:-1000}" "$seed" >"$work/told"
-check_last "scripts with workers"
-cat "$work/told"
-
-# A run with workers is killed at random moments.
-WORK=$work python3 tests/kill.py "$(executable)" "${KILLS:-50}" "$seed" --workers 4 >"$work/told"
-check_last "runs with workers that are killed"
-cat "$work/told"
-
 bench=$(find_program cm_bench_files)
-WORK=$work python3 tests/soak.py "$(executable)" "$bench" 16 "${SOAK:-1}" >"$work/told"
-check_last "sixteen threads on one file"
-cat "$work/told"
 
-WORK=$quick python3 tests/soak_kill.py "$(executable)" "$bench" 16 "${KILLS:-50}" "$seed" \
-    >"$work/told"
-check_last "sixteen threads on one file that are killed"
-cat "$work/told"
-
-WORK=$quick python3 tests/soak_stop.py "$(executable)" "$bench" 16 "${MOMENTS:-50}" "$seed" \
-    >"$work/told"
-check_last "sixteen threads on one file of a machine that stops"
-cat "$work/told"
+# The machine doesn't stop during most of these, so they needn't wait for a disk.
+quick_folder
+WORK=$quick counted "scripts with workers" \
+    python3 tests/threads.py "$(executable)" "${SCRIPTS:-1000}" "$seed"
+WORK=$work counted "runs with workers that are killed" \
+    python3 tests/kill.py "$(executable)" "${KILLS:-50}" "$seed" --workers 4
+WORK=$work counted "sixteen threads on one file" \
+    python3 tests/soak.py "$(executable)" "$bench" 16 "${SOAK:-1}"
+WORK=$quick counted "sixteen threads on one file that are killed" \
+    python3 tests/soak_kill.py "$(executable)" "$bench" 16 "${KILLS:-50}" "$seed"
+WORK=$quick counted "sixteen threads on one file of a machine that stops" \
+    python3 tests/soak_stop.py "$(executable)" "$bench" 16 "${MOMENTS:-50}" "$seed"
 
 finish
