@@ -1,13 +1,15 @@
 #!/usr/bin/env python3
-"""Compares what `cmcache check FILE` and `list FILE` say of many small files, sound and damaged,
-with what they have to say.
+"""Compares the files that `cmcache apply FILE` makes with those of region.py, and what
+`check FILE` and `list FILE` say of many small files, sound and damaged, with what they have to say.
 
     check.py PROGRAM COUNT SEED
 
-The first files are those of region.py; of each damaged one some bytes were changed at places drawn
-by the seed, most of them in its slots, its superblock and its records. Then comes a file that has
-an entry of each kind, and each byte of it that is in use gets each of some other values in turn.
-The expected output is that of region.py, which shares no code with the program.
+Each of a few scripts gets the replies of oracle.py and leaves the bytes of region.py: so each
+record lies where the model has it. The files that are checked and listed are those of region.py; of
+each damaged one some bytes were changed at places drawn by the seed, most of them in its slots, its
+superblock and its records. Then comes a file that has an entry of each kind, and each byte of it
+that is in use gets each of some other values in turn. The expected output is that of region.py,
+which shares no code with the program.
 """
 import multiprocessing
 import os
@@ -18,8 +20,14 @@ import sys
 import harness
 import oracle
 import region
+import runs
 
 A, B = (harness.class_a(name).hex() for name in (b"A", b"B"))
+
+def placed(loader, name, zeros):
+    return f"define {loader} {harness.padded(name, zeros).hex()}\n"
+
+
 SCRIPTS = [
     "",
     "loader a\n",
@@ -27,7 +35,15 @@ SCRIPTS = [
     f"loader a\ndefine a {A}\ndefine a {B}\nunload a\nloader a\ndefine a {A}\n",
     f"loader a\nloader b\ndefine a {A}\ndefine b {A}\nloader c\nunloadall c a\ndefine b {B}\n",
     # The second class moves to a smaller chunk.
-    f"loader a\ndefine a {A}\ndefine a {harness.padded(b'B', 864).hex()}\ntighten a\n",
+    f"loader a\ndefine a {A}\n{placed('a', b'B', 864)}tighten a\n",
+    # Chunks of 1, 2 and 4 units; none of 2 is free for b, so a root is added. What a leaves is used
+    # again, the first part first, and then b's last records move to the first 2 units.
+    "".join([
+        "loader a\n", placed("a", b"A", 0), placed("a", b"B", 864), placed("a", b"C", 1000),
+        "loader b\n", placed("b", b"A", 0), placed("b", b"B", 864), "unload a\n",
+        placed("b", b"C", 900), "loader c\n", placed("c", b"A", 0), "tighten b\n",
+        # Both together fill a chunk.
+        placed("c", b"B", 704)]),
     # Loaders of long names take two slots.
     f"loader {'m' * 49}\nloader {'n' * 48}\nloader {'n' * 96}\ndefine {'m' * 49} {A}\n",
 ]
@@ -67,6 +83,20 @@ def damage(data, draw):
                 [0, 1, 2, 3, 5, 0x11, 0x12, 0x13, 0xA4, 0xA5, 0xFF, draw.randrange(256)])
     if draw.randrange(10) == 0:
         del data[draw.randrange(len(data)):]
+
+
+def made(checks, program, path):
+    """The program replies to the scripts and makes their files as the model does."""
+    for number, script in enumerate(SCRIPTS):
+        lines = oracle.lines_of(script.encode())
+        cache, replies = oracle.answers(lines, SMALL)
+        harness.remove(path)
+        harness.run(program, runs.format_words(path, SMALL))
+        ran = harness.run(program, ["apply", path], lines)
+        checks.check(f"the replies to script {number}",
+                     ran == (replies, oracle.status_of(replies), ""), f"{ran}, wanted {replies}")
+        checks.check(f"the file after script {number}",
+                     harness.read(path) == region.file_of(cache).bytes)
 
 
 # ---- each byte in turn
@@ -190,6 +220,7 @@ def drawn(checks, program, path, count, seed):
 def main(program, count, seed):
     checks = harness.Checks()
     with harness.new_folder() as folder:
+        made(checks, program, os.path.join(folder, "made"))
         drawn(checks, program, os.path.join(folder, "checked"), count, seed)
         each_byte(checks, program, folder)
     return checks.finish()

@@ -475,10 +475,21 @@ class File:
         return {loader.name: {row.name: row.made.words for row in self.classes(loader.loader)}
                 for loader in self.loaders()}
 
+    def places(self):
+        """Each loader's classes, by the chunk and the offset of their records."""
+        return {loader.name: {row.name: (row.chunk, row.offset)
+                              for row in self.classes(loader.loader)} for loader in self.loaders()}
+
 
 def state_of(loaders):
     """The same of the loaders of a cache."""
     return {name: {class_name: live.made.words for class_name, live in loader.classes.items()}
+            for name, loader in loaders.items()}
+
+
+def places_of(loaders):
+    return {name: {class_name: (live.chunk, live.offset)
+                   for class_name, live in loader.classes.items()}
             for name, loader in loaders.items()}
 
 

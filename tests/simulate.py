@@ -23,6 +23,7 @@ import oracle
 import region
 
 LISTS = 1500
+PLACES = 5  # the file of every fifth list is read
 MOST_ALLOCATIONS = 2000
 
 
@@ -392,9 +393,9 @@ def draw_list(seed):
     return simulation
 
 
-def compare(checks, program, simulation, what):
+def compare(checks, program, simulation, what, *words):
     due = simulation.replies
-    got, status, _ = harness.simulated(program, simulation.text())
+    got, status, _ = harness.simulated(program, simulation.text(), *words)
     at = next((i for i, pair in enumerate(zip(due, got)) if pair[0] != pair[1]), None)
     line = ("" if at is None
             else f", line {at + 2} {simulation.lines[at + 1][:60]!r}: {got[at]} and not {due[at]}")
@@ -402,11 +403,26 @@ def compare(checks, program, simulation, what):
                  f"status {status}, {len(got)} of {len(due)} replies{line}")
 
 
-def check_lists(checks, program):
+def compare_file(checks, program, simulation, what, path):
+    """The same, and where the classes lie in the file of the disk at the end."""
+    compare(checks, program, simulation, what, "--disk", path)
+    world = simulation.world
+    stored = world.cache.states[world.turn(world.gate)]
+    try:
+        places = region.read(path).places()
+    except region.Damaged as verdict:
+        places = verdict
+    checks.check(f"{what}: the places of classes", places == region.places_of(stored), places)
+
+
+def check_lists(checks, program, folder):
     met = {}
     for seed in range(LISTS):
         simulation = draw_list(seed)
-        compare(checks, program, simulation, f"list {seed}")
+        if seed % PLACES:
+            compare(checks, program, simulation, f"list {seed}")
+        else:
+            compare_file(checks, program, simulation, f"list {seed}", f"{folder}/disk")
         replies = [reply if reply.startswith("refused") or reply == "none" else reply.split()[0]
                    for reply in simulation.replies]
         for kind in replies + simulation.world.stops:
@@ -443,7 +459,7 @@ def beginning():
 def store(simulation):
     """All that was accepted is handed out and stored."""
     simulation.add("seal")
-    while not simulation.add("advance").startswith("done"):
+    while simulation.add("advance") == "working":
         pass
 
 
@@ -843,6 +859,7 @@ def check_disk(checks, program):
         checks.check("the file after one loader and a root",
                      harness.read(path) == file + bytes(8192))
         check_places(checks, program, path)
+        check_first_root(checks, program, path)
         _, status, errors = harness.simulated(program, lines, "--disk", f"{folder}/no/disk")
         checks.check("a path in no folder", status == 3 and errors, f"status {status}")
     _, status, errors = harness.simulated(program, lines, "--disc", "x")
@@ -862,6 +879,24 @@ def check_places(checks, program, path):
         checks.check(f"class B lies at {at}", list(region.read(path).listed()) == lines)
         if at == 256:
             store(handed_out(simulation))
+
+
+def check_first_root(checks, program, path):
+    """Of two roots the first has the next chunk, which two classes fill. Worked out by hand: a's
+    class takes all of root 0, and b's first one begins root 1."""
+    simulation = Simulation(3, 2, 256)
+    for event in (("loader", b"a"), ("define", b"a", harness.padded(b"A", 8032)), ("loader", b"b"),
+                  ("define", b"b", harness.padded(b"B", 0)), ("unload", b"a")):
+        simulation.add(*event)
+    store(simulation)
+    simulation.add("learn")
+    for name in b"C", b"D":
+        simulation.add("define", b"b", harness.padded(name, 864))
+    store(simulation)
+    compare_file(checks, program, simulation, "a chunk of the first root", path)
+    lines = [b"loader b", b"class B words 20 root 1 at 0", b"class C words 128 root 0 at 0",
+             b"class D words 128 root 0 at 128"]
+    checks.check("two classes fill it", list(region.read(path).listed()) == lines)
 
 
 # ---- refused allocations
@@ -918,11 +953,11 @@ def sweep(checks, program, wanted, folder):
 
 def main(words):
     checks = harness.Checks()
-    if len(words) == 2:
-        with harness.new_folder() as folder:
+    with harness.new_folder() as folder:
+        if len(words) == 2:
             sweep(checks, words[0], int(words[1]), folder)
-    else:
-        met = check_lists(checks, words[0])
+            return checks.finish()
+        met = check_lists(checks, words[0], folder)
         print(f"{LISTS} event lists:",
               ", ".join(f"{kind} {count}" for kind, count in sorted(met.items())))
         for check in (check_walks, check_moves, check_move_waits, check_move_grows, check_trims,

@@ -27,6 +27,8 @@ ROWS = {
                runs.define(b"a", b"A", 0), b"find a A"],
     "row 17": [b"loader a", runs.define(b"a", b"A", 0), runs.define(b"a", b"B", 864),
                b"tighten a", b"tighten a"],
+    "a chunk that is filled": [b"loader a", runs.define(b"a", b"A", 0),
+                               runs.define(b"a", b"B", 704)],
 }
 GEOMETRY = oracle.Geometry(top=3, roots=3, slots=256)
 MOST_LINES = 100
