@@ -1,14 +1,13 @@
 //! The lines that say what a file holds, or why it isn't opened.
 
 ghost use Rattle.std.specs.Prelude.{◌≡◌, ◌+◌, ◌++◌, [], ◌∷◌, IfOk, OnOk};
-ghost use Rattle.std.specs.Fmt.{decimal};
 ghost use Rattle.std.specs.List.{flat_map};
 ghost use Rattle.cm_maintenance.specs.Listing.{shown};
 ghost use Rattle.cm_maintenance.specs.Texts.{report_line, listed_line, list_lines, fault_line};
 ghost use Rattle.cm_maintenance.specs.Texts.{roots_line};
 
 use crate::{ListedClass, ListedLoader, Report};
-use cm_lines::escape_into;
+use cm_lines::{escape_into, push_number};
 use cm_pool::Place;
 use cm_recover::OpenFault;
 use std::alloc::{AllocError, Global};
@@ -18,13 +17,13 @@ pub(crate) fn line_of_report(alloc: Global, report: Report) -> Result<Vec<u8>, A
     ensures { IfOk result (λ line. line.items ≡ report_line report) }
 {
     let mut line = Vec::from_slice(alloc, b"ok loaders ")?;
-    push_number(alloc, &mut line, report.loaders as u64)?;
+    push_number(&mut line, report.loaders as u64)?;
     line.extend_from_slice(b" classes ")?;
-    push_number(alloc, &mut line, report.classes as u64)?;
+    push_number(&mut line, report.classes as u64)?;
     line.extend_from_slice(b" chunks ")?;
-    push_number(alloc, &mut line, report.chunks as u64)?;
+    push_number(&mut line, report.chunks as u64)?;
     line.extend_from_slice(b" number ")?;
-    push_number(alloc, &mut line, report.number)?;
+    push_number(&mut line, report.number)?;
     line.push(b'\n')?;
     Ok(line)
 }
@@ -34,7 +33,7 @@ pub(crate) fn line_of_roots(alloc: Global, roots: u32) -> Result<Vec<u8>, AllocE
     ensures { IfOk result (λ line. line.items ≡ roots_line roots) }
 {
     let mut line = Vec::from_slice(alloc, b"roots ")?;
-    push_number(alloc, &mut line, u64::from(roots))?;
+    push_number(&mut line, u64::from(roots))?;
     line.push(b'\n')?;
     Ok(line)
 }
@@ -91,11 +90,11 @@ fn line_of_class(alloc: Global, class: &ListedClass) -> Result<Vec<u8>, AllocErr
     let mut line = Vec::from_slice(alloc, b"class ")?;
     escape_into(&mut line, &name)?;
     line.extend_from_slice(b" words ")?;
-    push_number(alloc, &mut line, u64::from(class.class.words()))?;
+    push_number(&mut line, u64::from(class.class.words()))?;
     line.extend_from_slice(b" root ")?;
-    push_number(alloc, &mut line, u64::from(class.place.chunk.root))?;
+    push_number(&mut line, u64::from(class.place.chunk.root))?;
     line.extend_from_slice(b" at ")?;
-    push_number(alloc, &mut line, first_word(class.place))?;
+    push_number(&mut line, first_word(class.place))?;
     line.push(b'\n')?;
     Ok(line)
 }
@@ -105,11 +104,4 @@ fn first_word(place: Place) -> u64
     ensures { result ≡ place.chunk.at + place.offset }
 {
     u64::from(place.chunk.at) + u64::from(place.offset)
-}
-
-fn push_number(alloc: Global, line: &mut Vec<u8>, number: u64) -> Result<(), AllocError>
-    ensures { OnOk result (line.new.items ≡ line.old.items ++ decimal number) }
-{
-    let digits = number.to_string(alloc)?;
-    line.extend_from_slice(digits.as_bytes())
 }
