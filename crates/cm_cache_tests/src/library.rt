@@ -123,3 +123,44 @@ fn a_file_is_opened_again_with_what_was_stored(rt: HostRuntime) -> Result<(), Fa
     assert!(rt; matches!(gone, Err(OpenError::Device(_))));
     Ok(())
 }
+
+/// A loader of this name, added through a pass of its own, which isn't given back.
+#[derive(Drop)]
+struct KeptPass(u8);
+
+impl<R: Wait> Work<R> for KeptPass {
+    type Output = Result<u64, Fail>;
+
+    ghost may_run = { λ _. Unit {0} };
+
+    ghost keeps = { λ _ _. Unit {0} };
+
+    fn run<K: Naming>(
+        self,
+        rt: &R,
+        _alloc: Global,
+        cache: &Cache<K>,
+        _pass: &mut Pass<K>,
+    ) -> Result<u64, Fail> {
+        let KeptPass(loader) = self;
+        let mut other = cache.pass(rt)?;
+        Ok(cache.add_loader(rt, &mut other, &[loader])?)
+    }
+}
+
+#[test]
+fn a_pass_that_is_kept_is_missing(rt: HostRuntime) -> Result<(), Fail> {
+    let alloc = rt.alloc();
+    let finished = with_cache(&rt, alloc, formatted(alloc)?, 1, KeptPass(b'x'))?;
+    assert_eq!(rt; finished.output??, 1);
+    assert_eq!(rt;
+        finished.counts,
+        Counts {
+            handed: 1,
+            committed: 1,
+            of_passes: 0,
+            missing: 1,
+        }
+    );
+    Ok(())
+}
