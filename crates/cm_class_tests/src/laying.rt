@@ -41,15 +41,21 @@ fn ways_agree(alloc: Global, bytes: &[u8]) -> Result<bool, AllocError> {
     })
 }
 
+fn flip(bytes: &mut [u8], place: usize, bits: u8) {
+    if let Some(byte) = bytes.get_mut(place) {
+        *byte ^= bits;
+    }
+}
+
 /// Whether both ways agree on these bytes with each of them changed in turn.
 fn agree_on_changed(alloc: Global, bytes: &[u8], change: u8) -> Result<bool, AllocError> {
     let mut changed = bytes.to_vec(alloc)?;
     for place in 0..changed.len() {
-        changed[place] ^= change;
+        flip(&mut changed, place, change);
         if !ways_agree(alloc, &changed)? {
             return Ok(false);
         }
-        changed[place] ^= change;
+        flip(&mut changed, place, change);
     }
     Ok(true)
 }
