@@ -3,6 +3,7 @@
 #![tactic(auto)]
 
 mod counts;
+mod opening;
 mod running;
 mod work;
 
@@ -12,8 +13,9 @@ pub use cm_disk::{Disk, SimDisk};
 pub use cm_file_disk::{CreateError, FileDisk, OpenError, create as create_file};
 pub use cm_pool::Geometry;
 pub use cm_record::Record;
-pub use cm_recover::{FormatFault, OpenFault, format};
+pub use cm_recover::{FormatFault, NotOpened, OpenFault, format};
 pub use cm_region_file::open as open_file;
 pub use counts::Counts;
-pub use running::{Finished, NotRun, with_cache, with_threads};
+pub use opening::{Opened, open};
+pub use running::{Finished, NotRun, NotStarted, with_cache, with_threads};
 pub use work::Work;

@@ -1,21 +1,22 @@
-//! A cache that is opened, used, and closed.
+//! A cache that is used and closed.
 
-ghost use Rattle.std.specs.Prelude.{◌≡◌, ◌<◌, [], None, IfOk, IfErr};
+ghost use Rattle.std.specs.Prelude.{◌≡◌, ◌<◌, Some, None, IfOk, IfErr};
 ghost use Rattle.std.specs.List.{All, AllZip};
 ghost use Rattle.cm_recover.specs.declared.fault.OpenFault.TheVariants as open_fault;
 ghost use Rattle.cm_cache.specs.Shared.{most_passes};
 ghost use Rattle.cm_cache.specs.Starting.{Belongs, MayStart};
-ghost use Rattle.cm_library.specs.Running.{RunsWork, Closes, HasClosed, IsNotBegun, MayRun};
+ghost use Rattle.cm_library.specs.Running.{RunsWork, Closes, HasClosed, IsNotBegun};
 ghost use Rattle.cm_library.specs.Running.{KeepsAlone};
 
 use crate::counts::Counts;
+use crate::opening::{Opened, open};
 use crate::work::{Work, work_alone, work_in_threads};
-use cm_cache::{Cache, Closed, Flusher, Naming, NewCache, Pass, opened_may_start};
+use cm_cache::{Cache, Closed, Flusher, Naming, NewCache, Pass};
 use cm_commands::Refusal;
 use cm_commit::Committer;
 use cm_disk::Disk;
 use cm_front::Front;
-use cm_recover::{NotOpened, OpenFault, open_in_threads};
+use cm_recover::{NotOpened, OpenFault};
 use std::alloc::Global;
 use std::fmt::{self, Debug, Formatter};
 use std::marker::Brand;
@@ -34,6 +35,16 @@ pub struct Finished<T, D> {
     pub disk: D,
 }
 
+/// A cache that was opened couldn't be started: an allocation for what its threads share failed, or
+/// the start of its thread. The disk was dropped, and its cache can be opened again.
+#[derive(Drop, Error)]
+#[error("out of memory")]
+#[error_bound(W: Drop)]
+pub struct NotStarted<W> {
+    /// The work, as it was.
+    pub work: W,
+}
+
 /// Why no work was begun.
 #[derive(Drop, Error)]
 #[error("{fault}")]
@@ -41,9 +52,8 @@ pub struct Finished<T, D> {
 pub struct NotRun<D, W> {
     /// Why the cache wasn't opened; `NoMemory` if it wasn't started.
     pub fault: OpenFault,
-    /// The disk, if the cache wasn't opened. `None` if the cache was opened, and an allocation for
-    /// what its threads share failed, or the start of its thread: the disk was dropped, and its
-    /// cache can be opened again.
+    /// The disk, if the cache wasn't opened. `None` if it wasn't started ([`NotStarted`]): the disk
+    /// was dropped, and its cache can be opened again.
     pub disk: Option<D>,
     /// The work, as it was.
     pub work: W,
@@ -57,16 +67,14 @@ impl<D, W> Debug for NotRun<D, W> {
     }
 }
 
-/// Opens the cache on a disk, does the work with it, and closes it. This many threads check the
-/// records on the disk while it is opened. Then another thread stores what is accepted; closing
-/// waits until all of that is stored, unless the device fails.
-///
-/// If no call of the disk failed, each command that was accepted is stored. Otherwise the oldest of
-/// them are, as many as the counts say, and each later one may be there or not once the disk is
-/// opened again, but none without those before it.
-///
-/// The output is what the work returned, or a refusal if the cache has no pass for it (`NoMemory`
-/// if an allocation failed for it): then the work wasn't begun.
+impl<W> Debug for NotStarted<W> {
+    fn fmt<F: fmt::Write>(&self, f: &mut Formatter<F>) -> fmt::Result {
+        f.debug_struct("NotStarted").finish_non_exhaustive()
+    }
+}
+
+/// Opens the cache on a disk, does the work with it, and closes it: [`open`] and [`Opened::run`] in
+/// one call. This many threads check the records on the disk while it is opened.
 ///
 /// # Errors
 /// [`NotRun`] if the cache isn't opened, with the fault and the disk as of
@@ -91,24 +99,17 @@ where
     ensures fault { IfErr result (λ e. IsNotBegun D.view disk e.fault e.disk) }
     ensures work { IfErr result (λ e. e.work ≡ work) }
 {
-    match open_new(rt, alloc, disk, threads) {
-        Ok(
-            Opened {
-                new,
-                front,
-                committer,
-            },
-        ) => run_alone::<Brand, R, D, W>(rt, alloc, new, front, committer, work),
-        Err(NotStarted { fault, disk }) => Err(NotRun { fault, disk, work }),
+    match open(rt, alloc, disk, threads) {
+        Ok(opened) => match opened.run(rt, alloc, work) {
+            Ok(finished) => Ok(finished),
+            Err(NotStarted { work }) => Err(not_run(work)),
+        },
+        Err(not_opened) => Err(not_begun(not_opened, work)),
     }
 }
 
-/// Opens the cache on a disk, does each work with it in a thread of its own, and closes it, as
-/// [`with_cache`] does for one work in the caller's thread.
-///
-/// The outputs are in the order of the works; in their place a refusal if an allocation failed
-/// (`NoMemory`), or if there are more than 65,536 works (`NumbersSpent`). Works may then have been
-/// done whose output is lost, and the counts say so: their passes are missing.
+/// Opens the cache on a disk, does each work with it in a thread of its own, and closes it:
+/// [`open`] and [`Opened::run_in_threads`] in one call.
 ///
 /// # Errors
 /// As of [`with_cache`].
@@ -132,71 +133,100 @@ where
     ensures fault { IfErr result (λ e. IsNotBegun D.view disk e.fault e.disk) }
     ensures works { IfErr result (λ e. e.work ≡ works) }
 {
-    match open_new(rt, alloc, disk, threads) {
-        Ok(
-            Opened {
-                new,
-                front,
-                committer,
-            },
-        ) => run_in_threads::<Brand, R, D, W>(rt, alloc, new, front, committer, works),
-        Err(NotStarted { fault, disk }) => {
-            Err(NotRun {
-                fault,
-                disk,
-                work: works,
-            })
+    match open(rt, alloc, disk, threads) {
+        Ok(opened) => match opened.run_in_threads(rt, alloc, works) {
+            Ok(finished) => Ok(finished),
+            Err(NotStarted { work }) => Err(not_run(work)),
+        },
+        Err(not_opened) => Err(not_begun(not_opened, works)),
+    }
+}
+
+impl<D: Disk + Drop + Send + 'static> Opened<D> {
+    ghost use Rattle.std.specs.Prelude.{◌≡◌, IfOk, IfErr};
+    ghost use Rattle.std.specs.List.{All, AllZip};
+    ghost use Rattle.cm_library.specs.Running.{RunsWork, IsOpened, KeepsAlone};
+
+    /// Does the work with the cache, and closes it. Another thread stores what is accepted; closing
+    /// waits until all of that is stored, unless the device fails.
+    ///
+    /// If no call of the disk failed, each command that was accepted is stored. Otherwise the
+    /// oldest of them are, as many as the counts say, and each later one may be there or not once
+    /// the disk is opened again, but none without those before it.
+    ///
+    /// The output is what the work returned, or a refusal if the cache has no pass for it
+    /// (`NoMemory` if an allocation failed for it): then the work wasn't begun.
+    ///
+    /// # Errors
+    /// [`NotStarted`], with the work as it was. No command was accepted.
+    pub fn run<R, W>(
+        self,
+        rt: &R,
+        alloc: Global,
+        work: W,
+    ) -> Result<Finished<Result<W::Output, Refusal>, D>, NotStarted<W>>
+    where
+        R: Threads + Wait + Copy + Send + Sync + 'static,
+        W: Work<R> + Drop,
+        requires may_run { W.may_run work }
+        ensures ran { IfOk result (λ f. (begun : D) → IsOpened D.view begun self
+            → RunsWork D.view
+            (λ passes. IfOk f.output (λ output. KeepsAlone W.keeps output passes))
+            begun f.counts f.disk) }
+        ensures work { IfErr result (λ e. e.work ≡ work) }
+    {
+        let Opened { front, committer } = self;
+        match NewCache::new(alloc, committer.number()) {
+            Ok(new) => run_alone::<Brand, R, D, W>(rt, alloc, new, front, committer, work),
+            Err(_) => Err(NotStarted { work }),
+        }
+    }
+
+    /// Does each work with the cache in a thread of its own, and closes it, as [`Opened::run`] does
+    /// for one work in the caller's thread.
+    ///
+    /// The outputs are in the order of the works; in their place a refusal if an allocation failed
+    /// (`NoMemory`), or if there are more than 65,536 works (`NumbersSpent`). Works may then have
+    /// been done whose output is lost, and the counts say so: their passes are missing.
+    ///
+    /// # Errors
+    /// As of [`Opened::run`].
+    pub fn run_in_threads<R, W>(
+        self,
+        rt: &R,
+        alloc: Global,
+        works: Vec<W>,
+    ) -> Result<Finished<Result<Vec<W::Output>, Refusal>, D>, NotStarted<Vec<W>>>
+    where
+        R: Threads + Wait + Copy + Send + Sync + 'static,
+        W: Work<R> + Drop + Send,
+        W::Output: Drop + Send,
+        requires may_run { All W.may_run works.items }
+        ensures ran { IfOk result (λ f. (begun : D) → IsOpened D.view begun self
+            → RunsWork D.view
+            (λ passes. IfOk f.output (λ outputs. AllZip W.keeps outputs.items passes))
+            begun f.counts f.disk) }
+        ensures works { IfErr result (λ e. e.work ≡ works) }
+    {
+        let Opened { front, committer } = self;
+        match NewCache::new(alloc, committer.number()) {
+            Ok(new) => run_each::<Brand, R, D, W>(rt, alloc, new, front, committer, works),
+            Err(_) => Err(NotStarted { work: works }),
         }
     }
 }
 
-// A cache that was opened, with what its threads share.
-struct Opened<D: Disk> {
-    new: NewCache,
-    front: Front,
-    committer: Committer<D>,
-}
-
-// Why there is none, with the disk if the cache wasn't opened.
-struct NotStarted<D> {
-    fault: OpenFault,
-    disk: Option<D>,
-}
-
-// Opens the cache on a disk, and makes what its threads share.
-fn open_new<R, D>(
-    rt: &R,
-    alloc: Global,
-    disk: D,
-    threads: usize,
-) -> Result<Opened<D>, NotStarted<D>>
-where
-    R: Threads + Sync,
-    D: Disk + Drop,
-    requires { 0 < threads }
-    ensures opened { IfOk result (λ o. MayRun D.view disk o.new o.front o.committer) }
-    ensures fault { IfErr result (λ e. IsNotBegun D.view disk e.fault e.disk) }
+// What is returned if a cache can't be opened.
+fn not_begun<D, W>(not_opened: NotOpened<D>, work: W) -> NotRun<D, W>
+    ensures fault { result.fault ≡ not_opened.fault }
+    ensures disk { result.disk ≡ Some not_opened.disk }
+    ensures work { result.work ≡ work }
 {
-    let (front, committer) = match open_in_threads(rt, alloc, disk, threads) {
-        Ok(opened) => opened,
-        Err(NotOpened { fault, disk }) => {
-            return Err(NotStarted {
-                fault,
-                disk: Some(disk),
-            });
-        }
-    };
-    opened_may_start(&front, &committer);
-    match NewCache::new(alloc, committer.number()) {
-        Ok(new) => Ok(Opened {
-            new,
-            front,
-            committer,
-        }),
-        Err(_) => Err(NotStarted {
-            fault: OpenFault::NoMemory,
-            disk: None,
-        }),
+    let NotOpened { fault, disk } = not_opened;
+    NotRun {
+        fault,
+        disk: Some(disk),
+        work,
     }
 }
 
@@ -221,7 +251,7 @@ fn run_alone<K, R, D, W>(
     front: Front,
     committer: Committer<D>,
     work: W,
-) -> Result<Finished<Result<W::Output, Refusal>, D>, NotRun<D, W>>
+) -> Result<Finished<Result<W::Output, Refusal>, D>, NotStarted<W>>
 where
     K: Naming + Send + Sync + 'static,
     R: Threads + Wait + Copy + Send + Sync + 'static,
@@ -233,11 +263,10 @@ where
     ensures ran { IfOk result (λ f. Closes D.view
         (λ passes. IfOk f.output (λ output. KeepsAlone W.keeps output passes))
         K.base K.failed f.counts f.disk) }
-    ensures fault { IfErr result (λ e. (e.fault ≡ open_fault.NoMemory) × (e.disk ≡ None)) }
     ensures work { IfErr result (λ e. e.work ≡ work) }
 {
     let Ok((cache, flusher)) = Cache::<K>::start(rt, alloc, new, front, committer) else {
-        return Err(not_run(work));
+        return Err(NotStarted { work });
     };
     let mut passes = Vec::new(alloc);
     let output = work_alone(rt, alloc, &cache, work, &mut passes);
@@ -250,14 +279,14 @@ where
 }
 
 // Starts a cache that was just opened, does each work in a thread, and closes it.
-fn run_in_threads<K, R, D, W>(
+fn run_each<K, R, D, W>(
     rt: &R,
     alloc: Global,
     new: NewCache,
     front: Front,
     committer: Committer<D>,
     works: Vec<W>,
-) -> Result<Finished<Result<Vec<W::Output>, Refusal>, D>, NotRun<D, Vec<W>>>
+) -> Result<Finished<Result<Vec<W::Output>, Refusal>, D>, NotStarted<Vec<W>>>
 where
     K: Naming + Send + Sync + 'static,
     R: Threads + Wait + Copy + Send + Sync + 'static,
@@ -270,11 +299,10 @@ where
     ensures ran { IfOk result (λ f. Closes D.view
         (λ passes. IfOk f.output (λ outputs. AllZip W.keeps outputs.items passes))
         K.base K.failed f.counts f.disk) }
-    ensures fault { IfErr result (λ e. (e.fault ≡ open_fault.NoMemory) × (e.disk ≡ None)) }
     ensures works { IfErr result (λ e. e.work ≡ works) }
 {
     let Ok((cache, flusher)) = Cache::<K>::start(rt, alloc, new, front, committer) else {
-        return Err(not_run(works));
+        return Err(NotStarted { work: works });
     };
     let mut passes = Vec::new(alloc);
     let output = work_in_threads(rt, alloc, &cache, works, &mut passes);

@@ -9,6 +9,7 @@ returns g c =
       all_back = closing.passes;
       receipts = closing.receipts;
       images = closing.images;
+      lasts = closing.lasts;
       whole = λ same. (closing.whole same).0;
       sure = λ same. (closing.whole same).1;
     }

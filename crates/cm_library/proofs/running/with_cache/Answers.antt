@@ -1,19 +1,16 @@
-use Rattle.std.specs.Prelude.{IfOk}
-use Rattle.cm_library.specs.Running.{KeepsAlone}
-use Rattle.cm_library.proofs.Ran.{runs, never_begun}
+use Rattle.cm_library.proofs.Ran.{not_opened, not_started}
 use Rattle.cm_library.proofs.running.with_cache.Goals as goal
 
-pub returns-in-Ok-clause-ran : goal.returns-in-Ok-clause-ran
-returns-in-Ok-clause-ran g c =
-    let new = c.in-Ok.field-0 in
-    runs g.D.Disk.view c.args.disk new.new new.front new.committer
-    c.in-Ok.ensures.opened
-    (λ output passes. IfOk output (λ o. KeepsAlone g.W.Work.keeps o passes)) c.run_alone.result
-    c.run_alone.ensures.ran
+pub returns-in-Ok-run-clause-ran : goal.returns-in-Ok-run-clause-ran
+returns-in-Ok-run-clause-ran g c =
+    c.in-Ok-run.ensures.ran c.args.disk c.in-Ok.ensures.opened
 
-pub returns-in-Ok-clause-fault : goal.returns-in-Ok-clause-fault
-returns-in-Ok-clause-fault g c =
-    let new = c.in-Ok.field-0 in
-    never_begun g.D.Disk.view c.args.disk new.new new.front new.committer
-    c.in-Ok.ensures.opened
-    c.run_alone.result c.run_alone.ensures.fault
+pub returns-in-Err-run-clause-fault : goal.returns-in-Err-run-clause-fault
+returns-in-Err-run-clause-fault g c =
+    not_started g.D.Disk.view c.args.disk c.in-Ok.ensures.opened.opens c.not_run.result
+    c.not_run.ensures.fault c.not_run.ensures.disk
+
+pub returns-in-Err-clause-fault : goal.returns-in-Err-clause-fault
+returns-in-Err-clause-fault g c =
+    not_opened g.D.Disk.view c.args.disk c.in-Err.not_opened c.in-Err.ensures.fault
+    c.not_begun.result c.not_begun.ensures.fault c.not_begun.ensures.disk

@@ -1,16 +1,16 @@
 use Rattle.crossbeam_channel.specs.Ends.{sends_on}
 use Rattle.cm_cache.specs.Channel.{channel_of}
 use Rattle.cm_cache.specs.Starting.{base_of}
-use Rattle.cm_library.proofs.running.with_cache.Given as goal
+use Rattle.cm_library.proofs.opening.Opened.run_in_threads.Given as goal
 
 -- what was just opened, with what was made for it
-abbrev pub ghosts-run_alone-K-Naming : goal.ghosts-run_alone-K-Naming
-ghosts-run_alone-K-Naming g a = record {
+abbrev pub ghosts-run_each-K-Naming : goal.ghosts-run_each-K-Naming
+ghosts-run_each-K-Naming g a = record {
   base = base_of a.committer;
   channel = channel_of (sends_on a.new.channel.sender);
   board = a.new.board.table.shared.table_id;
   failed = g.D.Disk.view.failures a.committer.disk;
 }
 
-abbrev pub ghosts-run_alone-K-Ledger : goal.ghosts-run_alone-K-Ledger
-ghosts-run_alone-K-Ledger g a = record { name = a.new.ledger.name; parts = a.new.ledger.parts }
+abbrev pub ghosts-run_each-K-Ledger : goal.ghosts-run_each-K-Ledger
+ghosts-run_each-K-Ledger g a = record { name = a.new.ledger.name; parts = a.new.ledger.parts }
