@@ -1,20 +1,22 @@
 -- Replies to lines, from the results of the cache.
--- For `answer`, `define`.
+-- For `answer_request`, `define`, `prepared`.
 use Rattle.std.proofs.Common.{◌≡◌, inr, ℕ, List, Option, Some, None, refl, sym}
 use Rattle.std.proofs.Common.{subst, ap, ◌∙◌}
 use Rattle.std.specs.Prelude.{Result, Ok, Err, IfOk}
-use Rattle.std.specs.Option.{option_map}
+use Rattle.std.specs.Option.{IfSome, option_map}
+use Rattle.hex.specs.Hex.{decode_of}
 use Rattle.hex.specs.declared.error.FromHexError.{FromHexError}
 use Rattle.cm_record.specs.Names.{class_name_in}
 use Rattle.cm_state.specs.Step.{Change, Define}
 use Rattle.cm_commands.specs.declared.refusal.Refusal.{Refusal}
 use Rattle.cm_cache.specs.Shared.{PassState, ReportsChange}
 use Rattle.cm_lines.specs.declared.line.Line.{Line}
-use Rattle.cm_lines.specs.Lines.{Asked, seen}
+use Rattle.cm_lines.specs.Lines.{Asked, AsksDefine, asked_by, seen}
 use Rattle.cm_tool.specs.declared.reply.Reply.{Reply}
 use Rattle.cm_tool.specs.Texts.{ReplyText, defined_reply}
 use Rattle.cm_tool.specs.Replies.{IsReply}
-use Rattle.cm_tool.specs.Ahead.{AreWordsOf}
+use Rattle.cm_tool.specs.declared.ahead.Defined.{Defined}
+use Rattle.cm_tool.specs.Ahead.{AreWordsOf, IsClassOf, Defines}
 use Rattle.cm_tool.specs.Calls.{reply_to, RepliesTo, IsUnasked, RepliesToDefine}
 use Rattle.cm_tool.specs.Calls.{RepliesToAsked}
 
@@ -77,3 +79,15 @@ pub of_line : {E : Type 0} (asked known : Option Asked) (old new : PassState)
     → Replied result (λ given. RepliesToAsked asked old given new)
 of_line asked known old new result same h =
     subst (λ a. Replied result (λ given. RepliesToAsked a old given new)) same h
+
+-- what was prepared by a line's words is what the line defines
+pub defines : (text loader digits : List ℕ) (known : Option Defined)
+    → Some (AsksDefine loader digits) ≡ asked_by text
+    → IfSome known (λ d. (d.loader.items ≡ loader) × IsClassOf (decode_of digits) d.class)
+    → IfSome known (Defines text)
+defines text loader digits None asked is = tt
+defines text loader digits (Some d) asked is = record {
+  digits = digits;
+  asked = subst (λ l. asked_by text ≡ Some (AsksDefine l digits)) (sym is.0) (sym asked);
+  class = is.1;
+}

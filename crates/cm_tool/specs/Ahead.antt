@@ -8,11 +8,12 @@ use Rattle.cm_record.specs.Names.{class_name_in}
 use Rattle.cm_rules.specs.Answer.{SpellsRightClass}
 use Rattle.cm_commands.specs.declared.refusal.Refusal.TheVariants as refusal
 use Rattle.cm_commands.specs.Prepare.{IsUnprepared}
+use Rattle.cm_lines.specs.declared.line_buffer.LineBuffer.{LineBuffer}
 use Rattle.cm_lines.specs.Lines.{AsksDefine, asked_by}
 use Rattle.cm_lines.specs.Streams.{HoldsLine}
+use Rattle.cm_tool.specs.declared.ahead.Defined.{Defined}
 use Rattle.cm_tool.specs.declared.ahead.LineClass.{LineClass}
 use Rattle.cm_tool.specs.declared.ahead.LineClass.TheVariants.{Ready, Refused, NoMemory}
-use Rattle.cm_tool.specs.declared.ahead.Known.{Known}
 
 -- these are the words of the record of the class that the bytes are, which keeps the rules
 pub record AreWordsOf (bytes words : List ℕ) : Type 0 where
@@ -30,9 +31,13 @@ IsClassOf decoded (Refused r) =
     ((bytes : List ℕ) × (decoded ≡ Ok bytes) × IsUnprepared bytes r)
     ⊎ ((e : FromHexError) × (decoded ≡ Err e) × (r ≡ refusal.BadLine))
 
--- the class is that of the line's digits
-abbrev pub IsItsClass : Known → Type 0
-IsItsClass known =
-    (text loader digits : List ℕ) → HoldsLine text known.line
-    → asked_by text ≡ Some (AsksDefine loader digits)
-    → IfSome known.class (IsClassOf (decode_of digits))
+-- the line of this text defines that
+pub record Defines (text : List ℕ) (d : Defined) : Type 0 where
+  pub digits : List ℕ
+  pub asked : asked_by text ≡ Some (AsksDefine d.loader.items digits)
+  pub class : IsClassOf (decode_of digits) d.class
+
+-- the line defines what is known of it
+abbrev pub IsDefinedThere : LineBuffer → Option Defined → Type 0
+IsDefinedThere line known =
+    (text : List ℕ) → HoldsLine text line → IfSome known (Defines text)

@@ -1,16 +1,17 @@
--- The result of a script whose commands are stored by a thread of its own.
-use Rattle.std.specs.Prelude.{◌≡◌, ◌≤◌, ℕ, true, List, Option, Some, None, Ok, IfSome, option_map}
-use Rattle.std.specs.Prelude.{IsSomeAnd}
-use Rattle.cm_record.specs.Layout.{lay}
-use Rattle.cm_layout.specs.Rows.{rows_with}
+-- The result of a script whose classes are prepared by several threads.
+use Rattle.std.specs.Prelude.{◌≡◌, ◌≤◌, ℕ, true, List, Option, Some, None, Ok, Result}
+use Rattle.std.specs.Prelude.{IfOk, IfSome, IsSomeAnd, option_map}
 use Rattle.cm_state.specs.Stands.{Stands}
 use Rattle.cm_verdict.specs.Verdict.{Standing, state_in, arenas_in, verdict}
 use Rattle.cm_lines.specs.Streams.{Io}
 use Rattle.cm_cache.specs.declared.channel.Base.{Base}
 use Rattle.cm_cache.specs.Closing.{LeavesBeginning}
+use Rattle.cm_cache.specs.Shared.{PassState}
+use Rattle.cm_library.specs.Running.{base_in}
 use Rattle.cm_tool.specs.declared.apply.ApplyFault.{ApplyFault}
 use Rattle.cm_tool.specs.declared.apply.ApplyFault.TheVariants as apply
 use Rattle.cm_tool.specs.declared.script.Outcome.{Outcome}
+use Rattle.cm_tool.specs.declared.script.ToolFault.{ToolFault}
 use Rattle.cm_tool.specs.declared.script.ToolFault.TheVariants as fault
 use Rattle.cm_tool.specs.Serving.{Medium, LeavesOpening}
 use Rattle.cm_tool.specs.Applied.{IsUntouched}
@@ -23,14 +24,6 @@ pub record LeavesRun (base : Base) (failed : ℕ) (left : Medium) : Type 0 where
   pub order : committed ≤ handed
   pub leaves : LeavesBeginning base handed committed left.bytes left.unsynced
   pub whole : left.failures ≡ failed → committed ≡ handed
-
--- the rows with the words of their records, and the number, that a file stands for
-abbrev pub base_in : Standing → Base
-base_in standing = record {
-  sizes = standing.found.sizes;
-  rows = rows_with lay standing.rows;
-  number = standing.found.number;
-}
 
 -- A run that begins with the cache that the disk's bytes stand for. While the cache is opened a
 -- crash leaves what it might have left before.
@@ -62,3 +55,12 @@ IsStoppedInThreads Leaves medium_of begun left io (apply.Script e) =
 abbrev pub IsSureWithout : {D : Type 0} → (D → ℕ) → Option D → Outcome → ℕ → Type 0
 IsSureWithout failures left outcome failed =
     outcome.unsure ≡ true → IfSome left (λ d. failures d ≡ failed → ⊥)
+
+-- a run is unsure only if its pass is marked
+abbrev pub IsMarkedIfUnsure : Result Outcome ToolFault → PassState → Type 0
+IsMarkedIfUnsure result pass = IfOk result (λ o. o.unsure ≡ true → pass.marked ≡ true)
+
+-- the run ended early after the cache was opened
+abbrev pub IsOfScript : ApplyFault → Type 0
+IsOfScript (apply.Open f) = ⊥
+IsOfScript (apply.Script e) = Unit {0}

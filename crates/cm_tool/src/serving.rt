@@ -1,6 +1,6 @@
 //! Scripts on a running cache.
 
-ghost use Rattle.std.specs.Prelude.{◌≡◌, ◌<◌, ℕ, List, IfOk, IfSome};
+ghost use Rattle.std.specs.Prelude.{◌≡◌, ◌<◌, ℕ, List, IfOk};
 ghost use Rattle.std.specs.Io.KnownBytes.{Appends};
 ghost use Rattle.hex.specs.Hex.{decode_of};
 ghost use Rattle.cm_lines.specs.Lines.{asked_by};
@@ -9,22 +9,31 @@ ghost use Rattle.cm_lines.specs.Escapes.{unescaped};
 ghost use Rattle.cm_cache.specs.Shared.{PassState};
 ghost use Rattle.cm_tool.specs.Texts.{ReplyText, number_reply, defined_reply};
 ghost use Rattle.cm_tool.specs.Replies.{IsReply, reply_line};
-ghost use Rattle.cm_tool.specs.Ahead.{IsClassOf, IsItsClass};
+ghost use Rattle.cm_tool.specs.Ahead.{IsClassOf, IsDefinedThere};
 ghost use Rattle.cm_tool.specs.Calls.{reply_to, RepliesToAsked, RepliesToDefine, RepliesToFind};
 
-use crate::ahead::{Batch, Known, LineAhead, LineClass, class_of};
+use crate::ahead::{Batch, Defined, Known, LineClass, Shown, class_of};
 use crate::script::{Outcome, ToolFault};
 use crate::{Reply, ReplyKind};
-use cm_cache::{Cache, Naming, Pass};
 use cm_commands::{Names, Refusal};
-use cm_lines::{Line, NameFault, unescape, write_line};
+use cm_library::{Cache, Naming, Pass};
+use cm_lines::{Line, LineBuffer, NameFault, read_line, unescape, write_line};
 use std::alloc::{AllocError, Global};
 use std::io::{BufRead, Write};
 use std::sync::Wait;
 use std::thread::Threads;
 
-/// Runs a script on a running cache: reads lines ahead, has their classes prepared by this many
-/// threads, and replies to them in order.
+/// What became of some lines of a script.
+#[derive(Clone, Copy)]
+struct Turn {
+    /// Whether one was refused.
+    refused: bool,
+    /// Whether more lines may follow.
+    more: bool,
+}
+
+/// Runs a script on a running cache: reads the lines that have arrived, has their classes prepared
+/// by at most this many threads if that is worth it, and replies to the lines in order.
 pub fn serve<K, T, R, W>(
     rt: &T,
     alloc: Global,
@@ -43,12 +52,26 @@ where
     ensures { IfOk result (λ o. o.unsure ≡ pass.new.marked) }
 {
     let mut refused = false;
+    let mut line = LineBuffer::new(alloc);
     for _ in rt.forever() {
-        let mut batch = Batch::read(alloc, reader);
-        batch.prepare(rt, alloc, workers);
-        let Batch { lines, more } = batch;
-        refused |= answer_all(rt, alloc, writer, cache, pass, lines)?;
-        if pass.marked() || !more? {
+        let shown = Shown::by(reader)?;
+        let threads = shown.threads(workers);
+        let turn = if threads > 1 {
+            serve_ahead(rt, alloc, reader, writer, cache, pass, shown.count, threads)?
+        } else {
+            serve_in_turn(
+                rt,
+                alloc,
+                reader,
+                writer,
+                cache,
+                pass,
+                shown.count,
+                &mut line,
+            )?
+        };
+        refused |= turn.refused;
+        if pass.marked() || !turn.more {
             let unsure = pass.marked();
             return Ok(Outcome { refused, unsure });
         }
@@ -56,24 +79,85 @@ where
     unreachable!()
 }
 
-/// Replies to lines in order, up to the first that is left unsure. Returns whether one was refused.
-fn answer_all<K: Naming, T: Wait, W: Write>(
+/// Reads this many lines, has their classes prepared by this many threads, and replies to them in
+/// order, up to the first that is left unsure.
+fn serve_ahead<K, T, R, W>(
     rt: &T,
     alloc: Global,
+    reader: &mut R,
     writer: &mut W,
     cache: &Cache<K>,
     pass: &mut Pass<K>,
-    lines: Vec<LineAhead>,
-) -> Result<bool, ToolFault> {
+    count: usize,
+    threads: usize,
+) -> Result<Turn, ToolFault>
+where
+    K: Naming,
+    T: Threads + Wait + Sync,
+    R: BufRead,
+    W: Write,
+    requires { 0 < threads }
+{
+    let mut batch = Batch::read(alloc, reader, count);
+    batch.prepare(rt, alloc, threads);
+    let Batch { lines, more } = batch;
     let mut refused = false;
-    for line in lines {
-        let kind = answer_line(rt, alloc, writer, cache, pass, line)?;
+    for ahead in lines {
+        let Known { line, defined } = ahead.into_known();
+        let kind = answer_line(rt, alloc, writer, cache, pass, &line, defined)?;
         refused |= matches!(kind, ReplyKind::Refused);
         if pass.marked() {
-            return Ok(refused);
+            return Ok(Turn {
+                refused,
+                more: false,
+            });
         }
     }
-    Ok(refused)
+    Ok(Turn {
+        refused,
+        more: more?,
+    })
+}
+
+/// Reads this many lines, and replies to each before it reads the next, up to the first that is
+/// left unsure.
+fn serve_in_turn<K, T, R, W>(
+    rt: &T,
+    alloc: Global,
+    reader: &mut R,
+    writer: &mut W,
+    cache: &Cache<K>,
+    pass: &mut Pass<K>,
+    count: usize,
+    line: &mut LineBuffer,
+) -> Result<Turn, ToolFault>
+where
+    K: Naming,
+    T: Wait,
+    R: BufRead,
+    W: Write,
+{
+    let mut refused = false;
+    for _ in 0..count {
+        if !read_line(reader, line)? {
+            return Ok(Turn {
+                refused,
+                more: false,
+            });
+        }
+        let kind = answer_line(rt, alloc, writer, cache, pass, line, None)?;
+        refused |= matches!(kind, ReplyKind::Refused);
+        if pass.marked() {
+            return Ok(Turn {
+                refused,
+                more: false,
+            });
+        }
+    }
+    Ok(Turn {
+        refused,
+        more: true,
+    })
 }
 
 /// Runs a line, and writes the reply.
@@ -83,14 +167,16 @@ fn answer_line<K: Naming, T: Wait, W: Write>(
     writer: &mut W,
     cache: &Cache<K>,
     pass: &mut Pass<K>,
-    line: LineAhead,
+    line: &LineBuffer,
+    defined: Option<Defined>,
 ) -> Result<ReplyKind, ToolFault>
-    ensures { (text : List ℕ) → HoldsLine text line.line
+    requires { IsDefinedThere line.now defined }
+    ensures { (text : List ℕ) → HoldsLine text line.now
         → IfOk result (λ kind. (given : ReplyText) × (kind ≡ given.kind)
         × RepliesToAsked (asked_by text) pass.old given pass.new
         × Appends (W.contents writer.old) (W.contents writer.new) (reply_line given)) }
 {
-    let reply = match answer(rt, alloc, cache, pass, line.into_known()) {
+    let reply = match answer(rt, alloc, cache, pass, line, defined) {
         Ok(reply) => reply,
         Err(_) => return Err(ToolFault::NoMemory),
     };
@@ -107,14 +193,32 @@ fn answer<K: Naming, T: Wait>(
     alloc: Global,
     cache: &Cache<K>,
     pass: &mut Pass<K>,
-    known: Known,
+    line: &LineBuffer,
+    defined: Option<Defined>,
 ) -> Result<Reply, AllocError>
-    requires { IsItsClass known }
-    ensures { (text : List ℕ) → HoldsLine text known.line
+    requires { IsDefinedThere line.now defined }
+    ensures { (text : List ℕ) → HoldsLine text line.now
         → IfOk result (λ reply. (given : ReplyText) × IsReply given reply
         × RepliesToAsked (asked_by text) pass.old given pass.new) }
 {
-    let Known { line, class } = known;
+    match defined {
+        Some(Defined { loader, class }) => define(rt, alloc, cache, pass, &loader, class),
+        None => answer_request(rt, alloc, cache, pass, line),
+    }
+}
+
+/// The reply to a line of which nothing is known yet.
+fn answer_request<K: Naming, T: Wait>(
+    rt: &T,
+    alloc: Global,
+    cache: &Cache<K>,
+    pass: &mut Pass<K>,
+    line: &LineBuffer,
+) -> Result<Reply, AllocError>
+    ensures { (text : List ℕ) → HoldsLine text line.now
+        → IfOk result (λ reply. (given : ReplyText) × IsReply given reply
+        × RepliesToAsked (asked_by text) pass.old given pass.new) }
+{
     match line.request() {
         Some(Line::Loader(name)) => tell_number(alloc, cache.add_loader(rt, pass, name)),
         Some(Line::Unload(name)) => tell_number(alloc, cache.unload(rt, pass, name)),
@@ -124,28 +228,10 @@ fn answer<K: Naming, T: Wait>(
             tell_number(alloc, cache.unload_all(rt, pass, names))
         }
         Some(Line::Define(loader, digits)) => {
-            define(
-                rt,
-                alloc,
-                cache,
-                pass,
-                loader,
-                or_prepared(alloc, class, digits),
-            )
+            define(rt, alloc, cache, pass, loader, class_of(alloc, digits))
         }
         Some(Line::Find(loader, class)) => find(rt, alloc, cache, loader, class),
         None => Reply::bad_line(alloc),
-    }
-}
-
-/// The class that these digits stand for, prepared now if it isn't known.
-fn or_prepared(alloc: Global, known: Option<LineClass>, digits: &[u8]) -> LineClass
-    ensures { IfSome known (IsClassOf (decode_of digits.now))
-        → IsClassOf (decode_of digits.now) result }
-{
-    match known {
-        Some(class) => class,
-        None => class_of(alloc, digits),
     }
 }
 
