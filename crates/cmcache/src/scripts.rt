@@ -11,7 +11,7 @@ use std::thread::Threads;
 /// How many bytes of a script are read at once: by one thread, and ahead for several.
 const READ_AT_ONCE: usize = 8_192;
 
-const READ_AHEAD: usize = 262_144;
+const READ_AHEAD: usize = 1_048_576;
 
 /// Runs the script on standard input on a disk's cache, with its replies on standard output and
 /// `workers` workers, and returns the status and the disk. There is no disk if the threads can't be
