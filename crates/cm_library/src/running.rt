@@ -217,7 +217,7 @@ impl<D: Disk + Drop + Send + 'static> Opened<D> {
 }
 
 // What is returned if a cache can't be opened.
-fn not_begun<D, W>(not_opened: NotOpened<D>, work: W) -> NotRun<D, W>
+fn not_begun<D: Drop, W>(not_opened: NotOpened<D>, work: W) -> NotRun<D, W>
     ensures fault { result.fault ≡ not_opened.fault }
     ensures disk { result.disk ≡ Some not_opened.disk }
     ensures work { result.work ≡ work }
