@@ -1,8 +1,8 @@
 //! Classes that are defined one at a time, and looked up meanwhile.
 
 use crate::threads::scene::{Sample, Scene};
-use cm_cache::{Cache, Naming, Pass};
 use cm_commands::{Prepared, Refusal, prepare};
+use cm_library::{Cache, Naming, Pass};
 use rand_core::Rng;
 use rand_pcg::Pcg32;
 use std::alloc::Global;

@@ -2,8 +2,8 @@
 
 use crate::threads::report::print_live;
 use crate::threads::scene::{Sample, Scene};
-use cm_cache::{Cache, Naming, Pass};
 use cm_commands::{Refusal, prepare};
+use cm_library::{Cache, Naming, Pass};
 use rand_core::Rng;
 use rand_pcg::Pcg32;
 use std::alloc::Global;

@@ -10,7 +10,7 @@ use crate::command::{Soaking, Threading};
 use crate::file::{CountedDisk, make_file};
 use crate::threads::defining::Turn;
 use crate::threads::mixing::{LOADERS, Mix};
-use crate::threads::report::{print_steps, print_sums, print_totals};
+use crate::threads::report::{print_counts, print_steps, print_sums};
 use crate::threads::running::{Duty, Ran, run_duties};
 use crate::threads::scene::Scene;
 use anyhow::Result;
@@ -62,9 +62,9 @@ where
     let scene = Scene::new(rt.alloc(), &bytes, loaders, 0)?;
     let ran = run_mixes(rt, soaking, &scene)?;
     if soaking.is_live {
-        return print_totals(rt, ran.totals);
+        return print_counts(rt, ran.counts);
     }
-    print_steps(rt, &scene, &ran.works, ran.totals)
+    print_steps(rt, &scene, &ran.outcomes, ran.counts)
 }
 
 /// The duties of the threads that define, and of those that look up.
@@ -119,5 +119,5 @@ where
     } else {
         None
     };
-    print_sums(rt, &ran.works, ran.totals, ran.disk.counts(), time)
+    print_sums(rt, &ran.outcomes, ran.counts, ran.disk.counts(), time)
 }

@@ -1,21 +1,22 @@
 //! What is printed.
 
-use crate::file::Counts;
+use crate::file::Counts as CallCounts;
 use crate::threads::defining::Looks;
 use crate::threads::mixing::{Answer, Asked, Step};
-use crate::threads::running::{Totals, Work};
+use crate::threads::running::Outcome;
 use crate::threads::scene::Scene;
 use anyhow::Result;
+use cm_library::Counts;
 use std::alloc::{AllocError, Global};
 
-/// Prints what was counted.
-pub fn print_totals(rt: &impl Print, totals: Totals) -> Result<()> {
-    let Totals {
+/// Prints what was counted when the cache was closed.
+pub fn print_counts(rt: &impl Print, counts: Counts) -> Result<()> {
+    let Counts {
         handed,
         committed,
         of_passes,
         missing,
-    } = totals;
+    } = counts;
     println!(rt; "handed {handed} committed {committed} of_passes {of_passes} missing {missing}")?;
     Ok(())
 }
@@ -77,18 +78,18 @@ fn print_step(rt: &impl Print, alloc: Global, scene: &Scene<'_>, step: Step) -> 
 pub fn print_steps(
     rt: &(impl Print + AllocGlobal),
     scene: &Scene<'_>,
-    works: &[Work],
-    totals: Totals,
+    outcomes: &[Outcome],
+    counts: Counts,
 ) -> Result<()> {
-    for work in works {
-        if let Work::Steps(steps) = work {
+    for outcome in outcomes {
+        if let Outcome::Steps(steps) = outcome {
             println!(rt; "thread")?;
             for step in steps {
                 print_step(rt, rt.alloc(), scene, *step)?;
             }
         }
     }
-    print_totals(rt, totals)
+    print_counts(rt, counts)
 }
 
 /// What threads did together.
@@ -98,14 +99,14 @@ struct Sums {
     looks: Looks,
 }
 
-fn add_up(works: &[Work]) -> Sums {
+fn add_up(outcomes: &[Outcome]) -> Sums {
     let mut stored = 0u64;
     let mut looks = Looks::NONE;
-    for work in works {
-        match work {
-            Work::Stored(more) => stored = stored.wrapping_add(*more),
-            Work::Looks(more) => looks.join(*more),
-            Work::Steps(_) => {}
+    for outcome in outcomes {
+        match outcome {
+            Outcome::Stored(more) => stored = stored.wrapping_add(*more),
+            Outcome::Looks(more) => looks.join(*more),
+            Outcome::Steps(_) => {}
         }
     }
     Sums { stored, looks }
@@ -115,16 +116,16 @@ fn add_up(works: &[Work]) -> Sums {
 /// nanoseconds, and what a lookup took.
 pub fn print_sums(
     rt: &impl Print,
-    works: &[Work],
-    totals: Totals,
+    outcomes: &[Outcome],
     counts: Counts,
+    calls: CallCounts,
     time: Option<u128>,
 ) -> Result<()> {
-    let Sums { stored, looks } = add_up(works);
+    let Sums { stored, looks } = add_up(outcomes);
     print!(rt; "stored {stored} ")?;
-    print_totals(rt, totals)?;
+    print_counts(rt, counts)?;
     if let Some(time) = time {
-        let syncs = counts.syncs;
+        let syncs = calls.syncs;
         println!(rt; "stored with {syncs} syncs in {time} ns")?;
         print_looks(rt, looks)?;
     }

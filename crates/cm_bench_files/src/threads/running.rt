@@ -1,21 +1,14 @@
-//! A cache that is started for threads, and closed after them.
-
-ghost use Rattle.cm_cache.specs.Starting.{Belongs, MayStart};
+//! A cache that runs for threads, each with a duty.
 
 use crate::threads::defining::{Looks, Turn, define_all, look_up_all};
 use crate::threads::mixing::{Mix, Step, mix_calls};
 use crate::threads::scene::Scene;
 use anyhow::Result;
-use cm_cache::{Cache, Closed, Naming, NewCache, Pass, opened_may_start};
-use cm_commit::Committer;
 use cm_disk::Disk;
-use cm_front::Front;
-use cm_recover::{NotOpened, open};
-use std::alloc::{AllocError, Global};
-use std::marker::Brand;
+use cm_library::{Cache, Counts, Finished, Naming, Pass, Work, with_threads};
+use std::alloc::Global;
 use std::rt::Clock;
 use std::sync::Wait;
-use std::thread;
 use std::thread::Threads;
 use std::time::Instant;
 
@@ -29,175 +22,87 @@ pub enum Duty {
 
 /// What a thread did.
 #[derive(Drop)]
-pub enum Work {
+pub enum Outcome {
     Steps(Vec<Step>),
     /// How many commands were stored.
     Stored(u64),
     Looks(Looks),
 }
 
-/// A thread's duty, with a pass of its own.
+/// A thread's work: its duty.
 #[derive(Drop)]
-struct Worker<K: Naming> {
-    pass: Pass<K>,
+struct Worker<'a> {
     duty: Duty,
+    scene: &'a Scene<'a>,
+    /// When the cache was about to be opened.
+    since: Instant,
 }
 
-/// What it did, and its pass.
+/// What it did, and how many nanoseconds after that it began and ended.
 #[derive(Drop)]
-struct Done<K: Naming> {
-    pass: Pass<K>,
-    work: Work,
-}
-
-/// What all threads returned, and how many nanoseconds they took.
-#[derive(Drop)]
-struct AllDone<K: Naming> {
-    passes: Vec<Pass<K>>,
-    works: Vec<Work>,
-    time: u128,
-}
-
-/// What was counted when the cache was closed.
-#[derive(Clone, Copy, Debug)]
-pub struct Totals {
-    pub handed: u64,
-    pub committed: u64,
-    pub of_passes: u64,
-    pub missing: u64,
+struct Done {
+    outcome: Outcome,
+    began: u128,
+    ended: u128,
 }
 
 /// The result of a cache and its threads.
 #[derive(Drop)]
 pub struct Ran<D: Disk> {
-    pub totals: Totals,
+    pub counts: Counts,
     /// What each thread did, in their order.
-    pub works: Vec<Work>,
-    /// How many nanoseconds they took.
+    pub outcomes: Vec<Outcome>,
+    /// How many nanoseconds there were from the first thread's begin to the last one's end.
     pub time: u128,
     pub disk: D,
 }
 
-fn do_duty<K: Naming, R: Clock + Print + Wait>(
-    rt: &R,
-    alloc: Global,
-    cache: &Cache<K>,
-    scene: &Scene<'_>,
-    worker: Worker<K>,
-) -> Done<K> {
-    let Worker { mut pass, duty } = worker;
-    let work = match duty {
-        Duty::Mix(mix) => Work::Steps(mix_calls(rt, alloc, cache, &mut pass, scene, mix)),
-        Duty::Define(turn) => { Work::Stored(define_all(rt, alloc, cache, &mut pass, scene, turn)) }
-        Duty::LookUp(turn) => Work::Looks(look_up_all(rt, cache, scene, turn)),
-    };
-    Done { pass, work }
+impl<R: Clock + Print + Wait> Work<R> for Worker<'_> {
+    type Output = Result<Done>;
+
+    ghost may_run = { λ _. Unit {0} };
+
+    ghost keeps = { λ _ _. Unit {0} };
+
+    fn run<K: Naming>(
+        self,
+        rt: &R,
+        alloc: Global,
+        cache: &Cache<K>,
+        pass: &mut Pass<K>,
+    ) -> Result<Done> {
+        let Worker { duty, scene, since } = self;
+        let began = since.elapsed(rt)?.as_nanos();
+        let outcome = match duty {
+            Duty::Mix(mix) => Outcome::Steps(mix_calls(rt, alloc, cache, pass, scene, mix)),
+            Duty::Define(turn) => Outcome::Stored(define_all(rt, alloc, cache, pass, scene, turn)),
+            Duty::LookUp(turn) => Outcome::Looks(look_up_all(rt, cache, scene, turn)),
+        };
+        let ended = since.elapsed(rt)?.as_nanos();
+        Ok(Done {
+            outcome,
+            began,
+            ended,
+        })
+    }
 }
 
-fn workers<K: Naming, R: Wait>(
+fn workers<'a, R: Clock>(
     rt: &R,
     alloc: Global,
-    cache: &Cache<K>,
+    scene: &'a Scene<'a>,
     duties: &[Duty],
-) -> Result<Vec<Worker<K>>> {
+) -> Result<Vec<Worker<'a>>> {
+    let since = Instant::now(rt)?;
     let mut workers = Vec::new(alloc);
     for duty in duties {
-        let pass = cache.pass(rt)?;
-        workers.push(Worker { pass, duty: *duty })?;
+        workers.push(Worker {
+            duty: *duty,
+            scene,
+            since,
+        })?;
     }
     Ok(workers)
-}
-
-fn gather<K: Naming>(
-    alloc: Global,
-    all: Vec<Done<K>>,
-    time: u128,
-) -> Result<AllDone<K>, AllocError> {
-    let mut passes = Vec::new(alloc);
-    let mut works = Vec::new(alloc);
-    for done in all {
-        let Done { pass, work } = done;
-        passes.push(pass)?;
-        works.push(work)?;
-    }
-    Ok(AllDone {
-        passes,
-        works,
-        time,
-    })
-}
-
-/// Has each thread do its duty.
-fn share_out<K, R>(
-    rt: &R,
-    alloc: Global,
-    cache: &Cache<K>,
-    scene: &Scene<'_>,
-    duties: &[Duty],
-) -> Result<AllDone<K>>
-where
-    K: Naming + Send + Sync + 'static,
-    R: Clock + Print + Threads + Wait + Sync,
-{
-    let workers = workers(rt, alloc, cache, duties)?;
-    let start = Instant::now(rt)?;
-    let all = thread::map_vec(
-        rt,
-        workers,
-        &|worker| do_duty(rt, alloc, cache, scene, worker),
-    )?;
-    let time = start.elapsed(rt)?.as_nanos();
-    Ok(gather(alloc, all, time)?)
-}
-
-/// Starts a cache, has each thread do its duty, and closes it.
-fn run<K, R, D>(
-    rt: &R,
-    alloc: Global,
-    new: NewCache,
-    front: Front,
-    committer: Committer<D>,
-    scene: &Scene<'_>,
-    duties: &[Duty],
-) -> Result<Ran<D>>
-where
-    K: Naming + Send + Sync + 'static,
-    R: Clock + Print + Threads + Wait + Copy + Send + Sync + 'static,
-    D: Disk + Drop + Send + 'static,
-    requires new { Belongs K.base K.channel K.board K.name K.parts new }
-    requires opened { MayStart K.base K.failed D.view.failures front committer }
-{
-    let (cache, flusher) = Cache::<K>::start(rt, alloc, new, front, committer)?;
-    let (passes, worked) = match share_out(rt, alloc, &cache, scene, duties) {
-        Ok(
-            AllDone {
-                passes,
-                works,
-                time,
-            },
-        ) => (passes, Ok((works, time))),
-        Err(error) => (Vec::new(alloc), Err(error)),
-    };
-    let Closed {
-        handed,
-        committed,
-        of_passes,
-        missing,
-        disk,
-    } = cache.close(rt, flusher, passes);
-    let (works, time) = worked?;
-    let totals = Totals {
-        handed,
-        committed,
-        of_passes,
-        missing,
-    };
-    Ok(Ran {
-        totals,
-        works,
-        time,
-        disk,
-    })
 }
 
 /// Opens the cache on a disk, and has threads do these duties on it.
@@ -212,11 +117,28 @@ where
     R: Clock + Print + Threads + Wait + Copy + Send + Sync + 'static,
     D: Disk + Drop + Send + 'static,
 {
-    let (front, committer) = match open(alloc, disk) {
-        Ok(opened) => opened,
-        Err(NotOpened { fault, disk: _disk }) => return Err(fault.into()),
-    };
-    opened_may_start(&front, &committer);
-    let new = NewCache::new(alloc, committer.number())?;
-    run::<Brand, R, D>(rt, alloc, new, front, committer, scene, duties)
+    let workers = workers(rt, alloc, scene, duties)?;
+    let Finished {
+        output,
+        counts,
+        disk,
+    } = with_threads(rt, alloc, disk, 1, workers)?;
+    let mut outcomes = Vec::new(alloc);
+    let (mut first, mut last) = (u128::MAX, 0);
+    for done in output? {
+        let Done {
+            outcome,
+            began,
+            ended,
+        } = done?;
+        outcomes.push(outcome)?;
+        first = first.min(began);
+        last = last.max(ended);
+    }
+    Ok(Ran {
+        counts,
+        outcomes,
+        time: last.saturating_sub(first),
+        disk,
+    })
 }
