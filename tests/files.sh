@@ -533,6 +533,12 @@ status=$?
 check_status "standard output closed" 3 says
 echo 'loader c' >>"$work/before"
 check_file "standard output closed: the first command is stored, and no other" "$cache"
+printf 'loader c\n' >"$work/again"
+"$program" apply "$cache" <"$work/again" >"$work/got" 2>&-
+status=$?
+echo 'refused 2 loader exists' >"$work/want"
+check "standard error closed: a line is refused" 1
+check_file "standard error closed: the file is as it was" "$cache"
 "$program" format "$work/unheard" <"$work/in" >&- 2>"$work/errors"
 status=$?
 check_status "format with a closed output" 3 says
