@@ -26,16 +26,16 @@ sweep_program() {
     WORK=$work tests/refused_memory.py "$built" "${@:2}" <"$1"
     check_last "the program with a refused allocation: ${*:2}"
 }
-beside sweep_program "$work/script" 383 apply --memory
-beside sweep_program "$work/script" 431 apply FILE
+beside sweep_program "$work/script" 387 apply --memory
+beside sweep_program "$work/script" 435 apply FILE
 beside sweep_program "$work/script" 91 format FILE
 # Only opening a file, and checking it.
 beside sweep_program /dev/null 363 apply FILE
-beside sweep_program /dev/null 283 check FILE
-beside sweep_program /dev/null 442 list FILE
+beside sweep_program /dev/null 279 check FILE
+beside sweep_program /dev/null 433 list FILE
 # The same for a cache that is started for threads: what they share, and the flusher's thread.
 beside sweep_program /dev/null 386 apply FILE --workers 2
-beside sweep_program "$work/script" 467 apply FILE --workers 2
+beside sweep_program "$work/script" 455 apply FILE --workers 2
 # The same with the library only: one thread makes a loader and defines a class.
 files=$(find_program cm_bench_files)
 sweep_threads() {
