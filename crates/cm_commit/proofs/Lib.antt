@@ -44,7 +44,7 @@ mod Offering
 -- The slots of the half that counts, with one more group.
 pub use Slots.{end_is}
 -- Where the records of rows that keep the rules lie: inside their chunks, one after another.
-pub use Places.{inside, ends_in_root}
+pub use Places.{inside}
 -- Contents that match what is committed denote its cache.
 pub use Shown.{shows_cache}
 -- How many whole roots a file has that ends at the end of a root.

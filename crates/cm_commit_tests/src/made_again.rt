@@ -5,7 +5,8 @@ use cm_commit::Committer;
 use cm_disk::{Disk, SimDisk};
 use cm_front::Front;
 use cm_pool::Geometry;
-use cm_recover::{FormatFault, NotOpened, OpenFault, format, open};
+use cm_recover::{FormatFault, NotOpened, format, open};
+use cm_verdict::OpenFault;
 use std::alloc::Global;
 use std::test::Fail;
 

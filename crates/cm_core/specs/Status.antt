@@ -1,7 +1,7 @@
 -- The numbers that C is told, and what they say.
 use Rattle.std.specs.Prelude.{ℕ, ℤ, pos, Result, Ok, Err}
-use Rattle.cm_recover.specs.declared.fault.OpenFault.{OpenFault}
-use Rattle.cm_recover.specs.declared.fault.OpenFault.TheVariants as fault
+use Rattle.cm_verdict.specs.declared.fault.OpenFault.{OpenFault}
+use Rattle.cm_verdict.specs.declared.fault.OpenFault.TheVariants as fault
 use Rattle.cm_commands.specs.declared.refusal.Refusal.{Refusal}
 use Rattle.cm_commands.specs.Refusals.{refusal_number}
 use Rattle.cm_stepped.specs.declared.step.Step.{Step}

@@ -5,7 +5,7 @@ ghost use Rattle.cm_commands.specs.Refusals.{refusal_number};
 ghost use Rattle.cm_core.specs.Status.{open_status};
 
 use cm_commands::Refusal;
-use cm_recover::OpenFault;
+use cm_verdict::OpenFault;
 
 /// It is done.
 pub const OK: i32 = 0;

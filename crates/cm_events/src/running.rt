@@ -8,7 +8,7 @@ use crate::fault::SimulationFault;
 use crate::simulation::{Simulation, read_simulation};
 use crate::text::answer_lines;
 use cm_disk::{DeviceFault, Disk, SimDisk};
-use cm_recover::OpenFault;
+use cm_verdict::OpenFault;
 use cm_world::World;
 use std::alloc::{AllocError, Global};
 use thiserror::Error;

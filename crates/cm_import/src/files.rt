@@ -6,7 +6,8 @@ use crate::sizes::{count_records, sizes_for};
 use cm_file_disk::{CreateError, FileDisk, OpenError};
 use cm_found_classes::{Found, Place, find};
 use cm_maintenance::Status;
-use cm_recover::{FormatFault, OpenFault, format};
+use cm_recover::{FormatFault, format};
+use cm_verdict::OpenFault;
 use std::alloc::AllocError;
 use std::fs::{self, File, Files};
 

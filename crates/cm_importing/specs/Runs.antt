@@ -8,9 +8,9 @@ use Rattle.cm_guards.specs.Calls.{LeavesOnly}
 use Rattle.cm_state.specs.Step.{AddLoader}
 use Rattle.cm_state.specs.Stands.{Arenas, Stands}
 use Rattle.cm_verdict.specs.Verdict.{verdict}
-use Rattle.cm_recover.specs.declared.fault.OpenFault.{OpenFault}
-use Rattle.cm_recover.specs.declared.fault.OpenFault.TheVariants as open_fault
-use Rattle.cm_recover.specs.Opening.{IsFaultIn}
+use Rattle.cm_verdict.specs.declared.fault.OpenFault.{OpenFault}
+use Rattle.cm_verdict.specs.declared.fault.OpenFault.TheVariants as open_fault
+use Rattle.cm_verdict.specs.Opening.{IsFaultIn}
 use Rattle.cm_recover.specs.Opened.{OpensThrough}
 use Rattle.cm_commands.specs.declared.refusal.Refusal.{Refusal}
 use Rattle.cm_commands.specs.declared.refusal.Refusal.TheVariants as refusal

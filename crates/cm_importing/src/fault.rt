@@ -5,7 +5,7 @@ ghost use Rattle.cm_importing.specs.declared.fault.ImportFault.TheVariants as fa
 
 use cm_commands::Refusal;
 use cm_disk::DeviceFault;
-use cm_recover::OpenFault;
+use cm_verdict::OpenFault;
 use std::alloc::AllocError;
 use thiserror::Error;
 

@@ -4,7 +4,7 @@ use crate::groups::Told;
 use crate::imports::{import_groups, new_disk};
 use cm_disk::{Choice, FuseDisk, SimDisk};
 use cm_importing::ImportFault;
-use cm_recover::OpenFault;
+use cm_verdict::OpenFault;
 use std::test::*;
 use std::thread::Threads;
 

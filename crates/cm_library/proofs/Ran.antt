@@ -5,7 +5,7 @@ use Rattle.std.specs.Prelude.{Result, IfOk}
 use Rattle.cm_disk.specs.Disk.{View}
 use Rattle.cm_front.specs.Front.{FrontState}
 use Rattle.cm_commit.specs.States.{CommitterState}
-use Rattle.cm_recover.specs.declared.fault.OpenFault.TheVariants as open_fault
+use Rattle.cm_verdict.specs.declared.fault.OpenFault.TheVariants as open_fault
 use Rattle.cm_recover.specs.declared.opening.NotOpened.{NotOpened}
 use Rattle.cm_recover.specs.Opened.{Opens, OpensThrough}
 use Rattle.cm_cache.specs.declared.channel.Base.{Base}

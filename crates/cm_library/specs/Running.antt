@@ -7,10 +7,10 @@ use Rattle.cm_disk.specs.Disk.{View}
 use Rattle.cm_state.specs.Stands.{Stands}
 use Rattle.cm_verdict.specs.Verdict.{Standing, state_in, arenas_in, verdict}
 use Rattle.cm_commit.specs.States.{CommitterState}
-use Rattle.cm_recover.specs.declared.fault.OpenFault.{OpenFault}
-use Rattle.cm_recover.specs.declared.fault.OpenFault.TheVariants as open_fault
+use Rattle.cm_verdict.specs.declared.fault.OpenFault.{OpenFault}
+use Rattle.cm_verdict.specs.declared.fault.OpenFault.TheVariants as open_fault
 use Rattle.cm_recover.specs.Opened.{OpensThrough}
-use Rattle.cm_recover.specs.Opening.{IsFaultIn}
+use Rattle.cm_verdict.specs.Opening.{IsFaultIn}
 use Rattle.cm_cache.specs.declared.channel.Base.{Base}
 use Rattle.cm_cache.specs.Closing.{LeavesBeginning, HoldsLasts}
 use Rattle.cm_cache.specs.Shared.{PassState}

@@ -2,7 +2,7 @@
 
 ghost use Rattle.std.specs.Prelude.{◌≡◌, ◌<◌, Some, None, IfOk, IfErr};
 ghost use Rattle.std.specs.List.{All, AllZip};
-ghost use Rattle.cm_recover.specs.declared.fault.OpenFault.TheVariants as open_fault;
+ghost use Rattle.cm_verdict.specs.declared.fault.OpenFault.TheVariants as open_fault;
 ghost use Rattle.cm_cache.specs.Shared.{most_passes};
 ghost use Rattle.cm_cache.specs.Starting.{Belongs, MayStart};
 ghost use Rattle.cm_library.specs.Running.{RunsWork, Closes, HasClosed, IsNotBegun};
@@ -16,7 +16,8 @@ use cm_commands::Refusal;
 use cm_commit::Committer;
 use cm_disk::Disk;
 use cm_front::Front;
-use cm_recover::{NotOpened, OpenFault};
+use cm_recover::NotOpened;
+use cm_verdict::OpenFault;
 use std::alloc::Global;
 use std::fmt::{self, Debug, Formatter};
 use std::marker::Brand;

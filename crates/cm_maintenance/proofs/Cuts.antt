@@ -24,10 +24,10 @@ use Rattle.cm_commit.specs.Trims.{roots_of_rows}
 use Rattle.cm_commit.proofs.{whole_used}
 use Rattle.cm_front.specs.Front.{FrontState}
 use Rattle.cm_verdict.specs.Verdict.{Standing, verdict}
-use Rattle.cm_recover.specs.declared.fault.OpenFault.{OpenFault}
-use Rattle.cm_recover.specs.declared.fault.OpenFault.TheVariants as open_fault
+use Rattle.cm_verdict.specs.declared.fault.OpenFault.{OpenFault}
+use Rattle.cm_verdict.specs.declared.fault.OpenFault.TheVariants as open_fault
 use Rattle.cm_recover.specs.Opened.{Opens}
-use Rattle.cm_recover.specs.Standing.{FollowsVerdict}
+use Rattle.cm_verdict.specs.Standing.{FollowsVerdict}
 use Rattle.cm_maintenance.specs.declared.fault.MaintenanceFault.{MaintenanceFault}
 use Rattle.cm_maintenance.specs.declared.status.Status.{Status}
 use Rattle.cm_maintenance.specs.declared.status.Status.TheVariants as status

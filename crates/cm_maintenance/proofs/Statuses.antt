@@ -1,8 +1,8 @@
 -- The status for a file that isn't opened is never `Done`.
 -- For `list_to`, `trim_to`.
 use Rattle.std.proofs.Common.{◌≡◌, ◌∙◌, ℕ, List, Option, Result, Ok, Err, sym}
-use Rattle.cm_recover.specs.declared.fault.OpenFault.{OpenFault}
-use Rattle.cm_recover.specs.declared.fault.OpenFault.TheVariants as open_fault
+use Rattle.cm_verdict.specs.declared.fault.OpenFault.{OpenFault}
+use Rattle.cm_verdict.specs.declared.fault.OpenFault.TheVariants as open_fault
 use Rattle.cm_maintenance.specs.declared.fault.MaintenanceFault.{MaintenanceFault}
 use Rattle.cm_maintenance.specs.declared.status.Status.{Status}
 use Rattle.cm_maintenance.specs.declared.status.Status.TheVariants.{Done}

@@ -4,7 +4,7 @@ use Rattle.std.specs.Prelude.{codes}
 use Rattle.std.specs.Fmt.{digits}
 use Rattle.cm_pool.specs.declared.place.Place.{Place}
 use Rattle.cm_verdict.specs.declared.fault.Damage.TheVariants as damage
-use Rattle.cm_recover.specs.declared.fault.OpenFault.TheVariants as open_fault
+use Rattle.cm_verdict.specs.declared.fault.OpenFault.TheVariants as open_fault
 use Rattle.cm_maintenance.specs.Texts.{report_line, loader_line, class_line, list_lines, fault_line}
 
 -- ---- of files that are checked

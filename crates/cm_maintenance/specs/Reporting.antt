@@ -5,9 +5,9 @@ use Rattle.cm_record.specs.Layout.{lay}
 use Rattle.cm_layout.specs.Rows.{rows_with}
 use Rattle.cm_state.specs.Stands.{Stands}
 use Rattle.cm_verdict.specs.Verdict.{Standing, state_in, arenas_in, verdict}
-use Rattle.cm_recover.specs.declared.fault.OpenFault.{OpenFault}
-use Rattle.cm_recover.specs.declared.fault.OpenFault.TheVariants as open_fault
-use Rattle.cm_recover.specs.Standing.{FollowsVerdict}
+use Rattle.cm_verdict.specs.declared.fault.OpenFault.{OpenFault}
+use Rattle.cm_verdict.specs.declared.fault.OpenFault.TheVariants as open_fault
+use Rattle.cm_verdict.specs.Standing.{FollowsVerdict}
 use Rattle.cm_maintenance.specs.Report.{Reports}
 use Rattle.cm_maintenance.specs.declared.listing.ListedClass.{ListedClass}
 use Rattle.cm_maintenance.specs.Listing.{listing}

@@ -4,8 +4,8 @@ use Rattle.std.specs.List.{flat_map}
 use Rattle.std.specs.Fmt.{decimal}
 use Rattle.cm_pool.specs.declared.place.Place.{Place}
 use Rattle.cm_record.specs.Names.{class_name_in}
-use Rattle.cm_recover.specs.declared.fault.OpenFault.{OpenFault}
-use Rattle.cm_recover.specs.Texts.{open_fault_text}
+use Rattle.cm_verdict.specs.declared.fault.OpenFault.{OpenFault}
+use Rattle.cm_verdict.specs.Texts.{open_fault_text}
 use Rattle.cm_maintenance.specs.declared.report.Report.{Report}
 use Rattle.cm_maintenance.specs.declared.listing.ListedClass.{ListedClass}
 use Rattle.cm_lines.specs.Escapes.{escaped}

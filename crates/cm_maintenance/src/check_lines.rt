@@ -12,7 +12,7 @@ use crate::telling::{tell, tell_fault, with_disk};
 use crate::texts::line_of_report;
 use crate::{Report, check};
 use cm_disk::Disk;
-use cm_recover::OpenFault;
+use cm_verdict::OpenFault;
 use std::alloc::Global;
 use std::io::Write;
 

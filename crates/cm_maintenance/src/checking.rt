@@ -3,16 +3,16 @@
 ghost use Rattle.std.specs.Prelude.{◌≡◌, Err};
 ghost use Rattle.cm_guards.specs.Calls.{Reads};
 ghost use Rattle.cm_verdict.specs.Verdict.{verdict};
-ghost use Rattle.cm_recover.specs.declared.fault.OpenFault.TheVariants as open_fault;
-ghost use Rattle.cm_recover.specs.Standing.{FollowsVerdict};
+ghost use Rattle.cm_verdict.specs.declared.fault.OpenFault.TheVariants as open_fault;
+ghost use Rattle.cm_verdict.specs.Standing.{FollowsVerdict};
 ghost use Rattle.cm_maintenance.specs.Report.{Reports};
 
 use crate::report::{Report, count};
 use cm_disk::Disk;
 use cm_layout::loaders_are_own;
-use cm_recover::{OpenFault, read_standing};
+use cm_recover::read_standing;
 use cm_state::rows_tell_state;
-use cm_verdict::{found_is_framed, found_is_live, verdict_is_exact};
+use cm_verdict::{OpenFault, found_is_framed, found_is_live, verdict_is_exact};
 use std::alloc::Global;
 
 /// What the cache that would open from this file holds. The file is only read: no byte changes, and

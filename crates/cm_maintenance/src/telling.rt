@@ -8,7 +8,7 @@ use crate::fault::{MaintenanceFault, NotReported};
 use crate::status::Status;
 use crate::texts::line_of_fault;
 use cm_lines::write_line;
-use cm_recover::OpenFault;
+use cm_verdict::OpenFault;
 use std::alloc::Global;
 use std::io::Write;
 

@@ -9,7 +9,7 @@ ghost use Rattle.cm_maintenance.specs.Texts.{roots_line};
 use crate::{ListedClass, ListedLoader, Report};
 use cm_lines::{escape_into, push_number};
 use cm_pool::Place;
-use cm_recover::OpenFault;
+use cm_verdict::OpenFault;
 use std::alloc::{AllocError, Global};
 
 /// `ok loaders L classes C chunks K number N`.

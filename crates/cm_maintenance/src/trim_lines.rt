@@ -15,7 +15,8 @@ use crate::telling::{tell, tell_fault, with_disk};
 use crate::texts::line_of_roots;
 use crate::trimming::trim_file;
 use cm_disk::Disk;
-use cm_recover::{NotOpened, OpenFault, open};
+use cm_recover::{NotOpened, open};
+use cm_verdict::OpenFault;
 use std::alloc::Global;
 use std::io::Write;
 

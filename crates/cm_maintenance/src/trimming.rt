@@ -6,12 +6,12 @@ ghost use Rattle.cm_guards.specs.Calls.{LeavesOnly};
 ghost use Rattle.cm_layout.specs.Offsets.{root_at};
 ghost use Rattle.cm_commit.specs.States.{IsFree, ShowsCommitted, with_trim};
 ghost use Rattle.cm_commit.specs.Trims.{roots_of_rows};
-ghost use Rattle.cm_recover.specs.declared.fault.OpenFault.TheVariants as open_fault;
+ghost use Rattle.cm_verdict.specs.declared.fault.OpenFault.TheVariants as open_fault;
 ghost use Rattle.cm_maintenance.specs.Trimming.{SameIdle, HasNoMore};
 
 use cm_commit::{AdvanceFault, Committer};
 use cm_disk::Disk;
-use cm_recover::OpenFault;
+use cm_verdict::OpenFault;
 
 /// Makes the two device calls of a trim.
 fn cut<D: Disk>(committer: &mut Committer<D>) -> Result<(), AdvanceFault>

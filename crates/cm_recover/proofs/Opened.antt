@@ -33,7 +33,7 @@ use Rattle.cm_verdict.specs.Found.{Found}
 use Rattle.cm_verdict.specs.Verdict.{Standing, verdict}
 use Rattle.cm_verdict.specs.Laws.{FoundIsLive, FoundIsFramed, VerdictStands, Proves, IsFramed}
 use Rattle.cm_verdict.specs.Laws.{IsLive}
-use Rattle.cm_verdict.proofs.{bare_words}
+use Rattle.cm_verdict.proofs.{bare_words, place_of, short_enough, more_named}
 use Rattle.std.specs.Arc.{arc_value}
 use Rattle.cm_disk.specs.Disk.{Unsynced, IsDurable}
 use Rattle.cm_rows.specs.Rows.{LiveRows}
@@ -43,7 +43,7 @@ use Rattle.cm_commit.specs.Committed.{journal_of}
 use Rattle.cm_commit.specs.Checkpoints.{renewed_journal}
 use Rattle.cm_commit.specs.Renewals.{MayRenew}
 use Rattle.cm_commit.specs.Laws.{OthersAreTold}
-use Rattle.cm_recover.specs.Opening.{other_is_open}
+use Rattle.cm_verdict.specs.Opening.{other_is_open}
 use Rattle.cm_commit.specs.Keeps.{IsHeld}
 use Rattle.cm_guards.specs.Stages.{Stage, leaves}
 use Rattle.cm_commit.specs.States.{CommitterState, MayLeave, ShowsCache, ShowsCommitted}
@@ -52,11 +52,10 @@ use Rattle.cm_front.specs.Front.{FrontState, IsFront}
 use Rattle.cm_front.specs.Arenas.{ArenasAreOfRows, chunks_owned}
 use Rattle.cm_front.specs.Restoring.{Restores}
 use Rattle.cm_recover.specs.declared.standing.StandingFile.{StandingFile}
-use Rattle.cm_recover.specs.Standing.{TellNames, ReportsOk, IsStanding}
+use Rattle.cm_verdict.specs.Standing.{TellNames, ReportsOk}
+use Rattle.cm_recover.specs.Standing.{IsStanding}
 use Rattle.cm_recover.specs.Opened.{Opens, arenas_by_name, AreShort, OpensStanding, found_journal}
 use Rattle.cm_recover.specs.Opened.{is_older, opened_journal, IsOlderFile, StandsForSame}
-use Rattle.cm_recover.proofs.RecordPlaces.{place_of, short_enough}
-use Rattle.cm_recover.proofs.Passing.{more_named}
 
 -- ---- records
 

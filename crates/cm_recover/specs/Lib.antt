@@ -1,9 +1,5 @@
 pub mod NewFile
 pub mod Making
-pub mod Opening
-pub mod Ranges
-pub mod Texts
-pub mod Judging
 pub mod Standing
 pub mod Opened
 pub mod Laws

@@ -26,9 +26,9 @@ use Rattle.cm_commit.specs.States.{CommitterState, ShowsCache}
 use Rattle.cm_commit.specs.declared.journal_end.JournalEnd.{JournalEnd}
 use Rattle.cm_commit.specs.Checkpoints.{renewed_journal}
 use Rattle.cm_commit.specs.Committed.{end_slot}
-use Rattle.cm_recover.specs.Opening.{IsFaultIn, other_is_open}
+use Rattle.cm_verdict.specs.Opening.{IsFaultIn, other_is_open}
 use Rattle.cm_recover.specs.declared.opening.NotOpened.{NotOpened}
-use Rattle.cm_recover.specs.declared.fault.OpenFault.TheVariants as open_fault
+use Rattle.cm_verdict.specs.declared.fault.OpenFault.TheVariants as open_fault
 
 -- from each loader's name to the chunks of its arena in the accepted cache
 abbrev pub arenas_by_name : List (Row ClassFile) → FrontState → Arenas

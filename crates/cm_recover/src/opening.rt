@@ -4,21 +4,21 @@ ghost use Rattle.std.specs.Prelude.{◌≡◌, ◌<◌, Err, IfOk, IfErr, OnOk};
 ghost use Rattle.std.specs.Thread.{IsSync};
 ghost use Rattle.cm_disk.specs.Disk.{IsDurable};
 ghost use Rattle.cm_verdict.specs.Verdict.{verdict};
-ghost use Rattle.cm_recover.specs.declared.fault.OpenFault.TheVariants as open_fault;
-ghost use Rattle.cm_recover.specs.Judging.{Judges};
-ghost use Rattle.cm_recover.specs.Standing.{FollowsVerdict, IsStanding};
+ghost use Rattle.cm_verdict.specs.declared.fault.OpenFault.TheVariants as open_fault;
+ghost use Rattle.cm_verdict.specs.Judging.{Judges};
+ghost use Rattle.cm_verdict.specs.Standing.{FollowsVerdict};
+ghost use Rattle.cm_recover.specs.Standing.{IsStanding};
 ghost use Rattle.cm_recover.specs.Opened.{OpensFile, SyncsAndReads};
 
-use crate::fault::OpenFault;
-use crate::judging::{judge, judge_in_threads};
-use crate::row_record::RowRecord;
 use crate::standing::{StandingFile, read_standing_by};
 use crate::upgrading::upgrade;
 use cm_commit::{Committer, NotMade, others_are_told};
 use cm_disk::Disk;
 use cm_front::{Front, arenas_are_of_rows};
 use cm_record::words_tell_name;
-use cm_verdict::{found_is_framed, found_is_live, verdict_is_exact};
+use cm_verdict::{
+    OpenFault, RowRecord, found_is_framed, found_is_live, judge, judge_in_threads, verdict_is_exact,
+};
 use std::alloc::Global;
 use std::fmt::Debug;
 use std::thread::Threads;

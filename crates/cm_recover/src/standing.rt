@@ -1,28 +1,20 @@
 //! Reads what a file stands for.
 
-ghost use Rattle.std.specs.Prelude.{◌≡◌, ◌≢◌, ◌≤◌, ◌^◌, List, ℕ, Err, IfOk, IfErr};
-ghost use Rattle.cm_guards.specs.Calls.{Reads};
+ghost use Rattle.std.specs.Prelude.{◌≡◌, ◌≤◌, ◌^◌, List, ℕ};
 ghost use Rattle.cm_commit.specs.GroupPlans.{whole_roots as whole_roots_of};
-ghost use Rattle.cm_verdict.specs.Verdict.{verdict};
-ghost use Rattle.cm_recover.specs.declared.fault.OpenFault.TheVariants as open_fault;
-ghost use Rattle.cm_recover.specs.Opening.{IsFaultIn};
-ghost use Rattle.cm_recover.specs.Judging.{Judges};
-ghost use Rattle.cm_recover.specs.Standing.{FollowsVerdict, IsStanding, IsReadOf, IsJudgedOf};
-ghost use Rattle.cm_recover.specs.Standing.{ReadsStanding};
+ghost use Rattle.cm_verdict.specs.Judging.{Judges};
+ghost use Rattle.cm_verdict.specs.Standing.{IsJudgedFile};
+ghost use Rattle.cm_verdict.specs.Verdict.{Standing};
+ghost use Rattle.cm_recover.specs.Standing.{IsStanding, ReadsStanding};
 
-use crate::fault::OpenFault;
-use crate::judging::judge;
-use crate::reading::read_found;
-use crate::row_record::RowRecord;
-use crate::second_pass::SecondPass;
 use cm_commands::Prepared;
 use cm_commit::JournalEnd;
 use cm_disk::Disk;
-use cm_layout::{Half, HalfHead, root_bytes, roots_at};
+use cm_layout::{root_bytes, roots_at};
 use cm_pool::Geometry;
 use cm_record::Record;
 use cm_rows::LiveRows;
-use cm_verdict::{DefinedAt, found_is_live};
+use cm_verdict::{JudgedFile, OpenFault, RowRecord, judge, read_verdict};
 use std::alloc::Global;
 use std::sync::Arc;
 
@@ -50,82 +42,27 @@ fn whole_roots(geometry: Geometry, long: u64) -> u32
     (long.saturating_sub(roots_at(geometry)) / root_bytes(geometry)) as u32
 }
 
-/// A file whose rows were found, and the words of their records taken.
-#[derive(Drop)]
-struct ReadRows {
-    pass: SecondPass,
-    found: LiveRows<DefinedAt>,
-    records: Vec<RowRecord>,
-    half: Half,
-    head: HalfHead,
-    /// Whether the gate of the other half is open.
-    other_open: bool,
-    /// The first slot after the groups.
-    end: u32,
-}
-
-// Finds the rows and takes the words of their records.
-fn read_rows<D: Disk>(alloc: Global, disk: &mut D) -> Result<ReadRows, OpenFault>
-    ensures rows { IfOk result (IsReadOf (D.view.contents disk.old)) }
-    ensures fault { IfErr result (λ e. IsFaultIn e (verdict (D.view.contents disk.old))) }
-    ensures reads { Reads D.view disk.old disk.new
-        (result ≡ Err open_fault.Device) }
-{
-    found_is_live();
-    let found = read_found(alloc, disk)?;
-    let pass = SecondPass {
-        alloc,
-        geometry: found.geometry,
-        long: disk.len()?,
-        number: found.walk.number(),
-    };
-    let end = found.walk.end();
-    let rows = found.walk.into_book();
-    let records = pass.take_words(disk, &rows)?;
-    Ok(ReadRows {
-        pass,
-        found: rows,
-        records,
-        half: found.counts.half,
-        head: found.counts.head,
-        other_open: found.other_open,
-        end,
-    })
-}
-
-impl ReadRows {
-    // What the file stands for, after the records were judged.
-    fn stand(self) -> Result<StandingFile, OpenFault>
-        requires { (contents : List ℕ) × IsJudgedOf contents self }
-        ensures standing { (contents : List ℕ) → IsJudgedOf contents self
-            → FollowsVerdict (IsStanding contents) result (verdict contents) }
-        ensures in_memory { IfErr result (λ e. e ≢ open_fault.Device) }
+impl StandingFile {
+    // Where the journal of a file continues, and its rows.
+    fn of(file: JudgedFile) -> StandingFile
+        requires { (contents : List ℕ) × (s : Standing) × IsJudgedFile contents file s }
+        ensures { (contents : List ℕ) (s : Standing) → IsJudgedFile contents file s
+            → IsStanding contents result s }
     {
-        let ReadRows {
-            pass,
-            found,
-            records,
-            half,
-            head,
-            other_open,
-            end,
-        } = self;
-        let rows = pass.take_all(&found, records)?;
-        let (rows, committed) = rows.into_books();
-        Ok(StandingFile {
+        StandingFile {
             journal: JournalEnd {
-                geometry: pass.geometry,
-                half,
-                end,
-                epoch: head.epoch,
-                other_open,
-                number: pass.number,
+                geometry: file.geometry,
+                half: file.half,
+                end: file.end,
+                epoch: file.head.epoch,
+                other_open: file.other_open,
+                number: file.number,
             },
-            version: head.version,
-            roots: whole_roots(pass.geometry, pass.long),
-            rows,
-            committed,
-        })
+            version: file.head.version,
+            roots: whole_roots(file.geometry, file.long),
+            rows: file.rows,
+            committed: file.committed,
+        }
     }
 }
 
@@ -153,7 +90,6 @@ where
     requires judges { Judges (J.post judge) }
     ensures { ReadsStanding D.view disk.old disk.new result }
 {
-    let mut file = read_rows(alloc, disk)?;
-    file.records = judge(file.records);
-    file.stand()
+    let file = read_verdict(judge, alloc, disk)?;
+    Ok(StandingFile::of(file))
 }

@@ -8,18 +8,18 @@ ghost use Rattle.cm_layout.specs.Frames.{entry_version};
 ghost use Rattle.cm_layout.specs.Rows.{rows_with};
 ghost use Rattle.cm_commit.specs.Keeps.{IsHeld};
 ghost use Rattle.cm_verdict.specs.Verdict.{verdict};
-ghost use Rattle.cm_recover.specs.declared.fault.OpenFault.TheVariants as open_fault;
-ghost use Rattle.cm_recover.specs.Opening.{IsFaultIn};
-ghost use Rattle.cm_recover.specs.Standing.{ReportsOk, IsStanding};
+ghost use Rattle.cm_verdict.specs.declared.fault.OpenFault.TheVariants as open_fault;
+ghost use Rattle.cm_verdict.specs.Opening.{IsFaultIn};
+ghost use Rattle.cm_verdict.specs.Standing.{ReportsOk};
+ghost use Rattle.cm_recover.specs.Standing.{IsStanding};
 ghost use Rattle.cm_recover.specs.Opened.{IsOlderFile, StandsForSame, TellsDevice, opened_journal};
 
-use crate::fault::OpenFault;
 use crate::standing::StandingFile;
-use cm_commit::{JournalEnd, others_are_told, renew};
+use cm_commit::{JournalEnd, RenewFault, others_are_told, renew};
 use cm_disk::Disk;
 use cm_layout::ENTRY_VERSION;
 use cm_record::words_tell_name;
-use cm_verdict::{found_is_framed, found_is_live, verdict_is_exact};
+use cm_verdict::{OpenFault, found_is_framed, found_is_live, verdict_is_exact};
 use std::alloc::Global;
 
 /// Writes the journal of a file anew if the half that counts is of version 1, and returns where the
@@ -54,6 +54,9 @@ pub(crate) fn upgrade<D: Disk>(
     if file.version >= ENTRY_VERSION {
         return Ok(file.journal);
     }
-    let journal = renew(alloc, disk, &file.journal, &file.committed)?;
-    Ok(journal)
+    match renew(alloc, disk, &file.journal, &file.committed) {
+        Ok(journal) => Ok(journal),
+        Err(RenewFault::Device) => Err(OpenFault::Device),
+        Err(RenewFault::NoMemory) => Err(OpenFault::NoMemory),
+    }
 }

@@ -1,8 +1,7 @@
 //! What a file holds.
 
 use cm_disk::Disk;
-use cm_recover::{OpenFault, read_found};
-use cm_verdict::{Damage, FileFault, HalfWalk};
+use cm_verdict::{Damage, FileFault, HalfWalk, OpenFault, read_found};
 use std::alloc::Global;
 
 /// What is found in a file: how many live rows there are, the number of the last command, and the

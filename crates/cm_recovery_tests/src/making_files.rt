@@ -3,7 +3,8 @@
 use crate::found::{EMPTY, Summary, find_in};
 use cm_disk::{Choice, DeviceFault, Disk, FuseDisk, SimDisk};
 use cm_pool::Geometry;
-use cm_recover::{FormatFault, OpenFault, format};
+use cm_recover::{FormatFault, format};
+use cm_verdict::OpenFault;
 use std::alloc::Global;
 use std::test::*;
 

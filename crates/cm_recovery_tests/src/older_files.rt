@@ -5,8 +5,8 @@ use crate::file_samples::{CLASS_A, CLASS_B, file_of};
 use cm_disk::{Choice, FuseDisk, SimDisk};
 use cm_maintenance::check;
 use cm_pool::Geometry;
-use cm_recover::{NotOpened, OpenFault, format, open};
-use cm_verdict::Damage;
+use cm_recover::{NotOpened, format, open};
+use cm_verdict::{Damage, OpenFault};
 use std::alloc::Global;
 use std::test::*;
 

@@ -4,8 +4,8 @@ use crate::found::Found::{Damaged, NotACache, Sound};
 use crate::found::{EMPTY, Found, NEW, Summary, find_in};
 use cm_disk::{Disk, FuseDisk, SimDisk};
 use cm_pool::Geometry;
-use cm_recover::{OpenFault, format};
-use cm_verdict::Damage;
+use cm_recover::format;
+use cm_verdict::{Damage, OpenFault};
 use std::alloc::Global;
 use std::test::*;
 

@@ -5,7 +5,7 @@ use crate::stored_calls::Call::{Define, Loader, Tighten, Unload, UnloadAll};
 use crate::stored_calls::{Call, disk_after, new_disk};
 use cm_disk::{Disk, FuseDisk, SimDisk};
 use cm_maintenance::{Report, check};
-use cm_recover::OpenFault;
+use cm_verdict::OpenFault;
 use std::alloc::Global;
 use std::test::*;
 

@@ -5,8 +5,8 @@ use crate::file_samples::{CLASS_A, CLASS_B, ROOTS_AT, file_of};
 use crate::found::Found;
 use crate::found::Found::{Damaged, NotACache, Sound};
 use cm_disk::{Disk, FuseDisk};
-use cm_recover::{OpenFault, StandingFile, read_standing};
-use cm_verdict::Damage;
+use cm_recover::{StandingFile, read_standing};
+use cm_verdict::{Damage, OpenFault};
 use std::alloc::Global;
 use std::test::*;
 

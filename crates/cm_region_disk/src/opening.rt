@@ -3,7 +3,7 @@ ghost use Rattle.std.specs.Prelude.{◌≡◌, length, IfOk};
 ghost use Rattle.cm_device_disk.specs.DeviceDisk.{disk_contents};
 
 use cm_device_disk::{Device, DeviceDisk, OpenedDevice, ReadError};
-use cm_recover::{OpenFault, bytes_before_roots, record_ranges};
+use cm_verdict::{OpenFault, bytes_before_roots, record_ranges};
 use std::alloc::Global;
 
 /// The disk of a device that holds a cache. What opening the cache reads is in memory then: the

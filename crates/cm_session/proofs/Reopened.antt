@@ -21,9 +21,9 @@ use Rattle.cm_verdict.specs.Laws.{FoundIsLive, FoundIsFramed, VerdictStands, Sta
 use Rattle.cm_verdict.specs.Laws.{Proves}
 use Rattle.cm_commit.specs.States.{CommitterState}
 use Rattle.cm_front.specs.Front.{FrontState, IsFront}
-use Rattle.cm_recover.specs.declared.fault.OpenFault.{OpenFault}
-use Rattle.cm_recover.specs.declared.fault.OpenFault.TheVariants as open_fault
-use Rattle.cm_recover.specs.Opening.{IsFaultIn}
+use Rattle.cm_verdict.specs.declared.fault.OpenFault.{OpenFault}
+use Rattle.cm_verdict.specs.declared.fault.OpenFault.TheVariants as open_fault
+use Rattle.cm_verdict.specs.Opening.{IsFaultIn}
 use Rattle.cm_recover.specs.Opened.{Opens, AreShort, OpensStanding}
 use Rattle.cm_recover.proofs.{are_short, opened}
 use Rattle.cm_handover.specs.Handover.{OpenedIsAhead}

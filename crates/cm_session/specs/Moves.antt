@@ -19,8 +19,8 @@ use Rattle.cm_guards.specs.Stages.{calls_left}
 use Rattle.cm_commit.specs.States.{CommitterState, with_taken}
 use Rattle.cm_commit.specs.Advances.{Advances}
 use Rattle.cm_recover.specs.declared.opening.NotOpened.{NotOpened}
-use Rattle.cm_recover.specs.declared.fault.OpenFault.{OpenFault}
-use Rattle.cm_recover.specs.declared.fault.OpenFault.TheVariants as open_fault
+use Rattle.cm_verdict.specs.declared.fault.OpenFault.{OpenFault}
+use Rattle.cm_verdict.specs.declared.fault.OpenFault.TheVariants as open_fault
 use Rattle.cm_commands.specs.Machine.{Base, Machine, Asks, Accepts, Refuses, Seals, Acknowledges}
 use Rattle.cm_commands.specs.Machine.{Reopens, accepted_to, machine_from}
 use Rattle.cm_session.specs.declared.session.Session.{Session}

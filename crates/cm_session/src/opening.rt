@@ -3,7 +3,7 @@
 ghost use Rattle.std.specs.Prelude.{◌≡◌, None, IfOk, IfErr};
 ghost use Rattle.cm_pool.specs.Geometry.{Sizes};
 ghost use Rattle.cm_verdict.specs.Verdict.{verdict};
-ghost use Rattle.cm_recover.specs.Opening.{IsFaultIn};
+ghost use Rattle.cm_verdict.specs.Opening.{IsFaultIn};
 ghost use Rattle.cm_recover.specs.Opened.{OpensThrough};
 ghost use Rattle.cm_commands.specs.Machine.{Machine};
 ghost use Rattle.cm_session.specs.Images.{StandsForSome};
@@ -16,9 +16,9 @@ use crate::session::Session;
 use cm_disk::Disk;
 use cm_handover::{committed_rows_are_the_machines, opened_is_ahead};
 use cm_record::words_tell_name;
-use cm_recover::{NotOpened, OpenFault};
+use cm_recover::NotOpened;
 use cm_state::contents_determine_cache;
-use cm_verdict::{found_is_framed, found_is_live, verdict_is_exact};
+use cm_verdict::{OpenFault, found_is_framed, found_is_live, verdict_is_exact};
 use std::alloc::Global;
 
 /// Opens the cache of a file, as [`cm_recover::open`] does, for use by one thread.

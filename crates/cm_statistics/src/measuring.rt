@@ -3,8 +3,9 @@
 ghost use Rattle.std.specs.Prelude.{◌≡◌, length, Err, IfOk, List, ℕ};
 ghost use Rattle.cm_guards.specs.Calls.{Reads};
 ghost use Rattle.cm_verdict.specs.Verdict.{verdict, Standing};
-ghost use Rattle.cm_recover.specs.declared.fault.OpenFault.TheVariants as open_fault;
-ghost use Rattle.cm_recover.specs.Standing.{FollowsVerdict, IsStanding};
+ghost use Rattle.cm_verdict.specs.declared.fault.OpenFault.TheVariants as open_fault;
+ghost use Rattle.cm_verdict.specs.Standing.{FollowsVerdict};
+ghost use Rattle.cm_recover.specs.Standing.{IsStanding};
 ghost use Rattle.cm_statistics.specs.Usage.{AreSmall};
 ghost use Rattle.cm_statistics.specs.Statistics.{Measures, JournalMeasures};
 
@@ -16,8 +17,8 @@ use crate::roots::{trimmed_len, used_roots};
 use crate::unused::largest_unused;
 use cm_disk::Disk;
 use cm_layout::row_limit;
-use cm_recover::{OpenFault, StandingFile, read_standing};
-use cm_verdict::{found_is_live, verdict_is_exact};
+use cm_recover::{StandingFile, read_standing};
+use cm_verdict::{OpenFault, found_is_live, verdict_is_exact};
 use std::alloc::{AllocError, Global};
 
 fn journal_of(file: &StandingFile) -> JournalUse

@@ -4,7 +4,7 @@ use Rattle.cm_pool.specs.Geometry.{Sizes}
 use Rattle.cm_disk.specs.Disk.{View, IsDurable}
 use Rattle.cm_state.specs.Stands.{Arenas, Stands}
 use Rattle.cm_recover.specs.declared.opening.NotOpened.{NotOpened}
-use Rattle.cm_recover.specs.declared.fault.OpenFault.TheVariants as open_fault
+use Rattle.cm_verdict.specs.declared.fault.OpenFault.TheVariants as open_fault
 use Rattle.cm_commands.specs.Machine.{Base, Machine, machine_from}
 use Rattle.cm_session.specs.Moves.{ReachesMachine, Reopening}
 use Rattle.cm_stepped.specs.declared.stepped.SteppedSession.{SteppedSession}

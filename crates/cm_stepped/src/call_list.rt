@@ -12,7 +12,8 @@ use crate::step::Broken;
 use cm_deferred_disk::{Call, ListedCalls, ListedDisk};
 use cm_device_disk::DeviceDisk;
 use cm_pool::Geometry;
-use cm_recover::{FormatFault, NotOpened, OpenFault, format, open};
+use cm_recover::{FormatFault, NotOpened, format, open};
+use cm_verdict::OpenFault;
 use std::alloc::Global;
 
 /// Device calls that are to be made in order, up to the first that fails.

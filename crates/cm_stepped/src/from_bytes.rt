@@ -8,8 +8,8 @@ use crate::stepped::SteppedSession;
 use cm_deferred_disk::{DeferredDisk, LastCall, ListedCalls, ListedDisk, SliceDevice};
 use cm_device_disk::{DeviceDisk, OpenedDevice, ReadError};
 use cm_disk::DeviceFault;
-use cm_recover::{OpenFault, is_older};
 use cm_region_disk::{disk_of, most_bytes_a_write};
+use cm_verdict::{OpenFault, is_older};
 use std::alloc::Global;
 use thiserror::Error;
 

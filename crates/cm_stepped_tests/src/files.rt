@@ -2,8 +2,8 @@
 
 use crate::device::make;
 use cm_pool::Geometry;
-use cm_recover::OpenFault;
 use cm_stepped::{Broken, BytesFault, CallList, open_bytes};
+use cm_verdict::OpenFault;
 use std::alloc::Global;
 use std::test::*;
 

@@ -4,9 +4,9 @@ use Rattle.cm_pool.specs.Geometry.{Sizes}
 use Rattle.cm_disk.specs.Disk.{IsWithin}
 use Rattle.cm_state.specs.Stands.{Arenas, Stands}
 use Rattle.cm_verdict.specs.Verdict.{verdict}
-use Rattle.cm_recover.specs.declared.fault.OpenFault.{OpenFault}
-use Rattle.cm_recover.specs.declared.fault.OpenFault.TheVariants as open_fault
-use Rattle.cm_recover.specs.Opening.{IsFaultIn}
+use Rattle.cm_verdict.specs.declared.fault.OpenFault.{OpenFault}
+use Rattle.cm_verdict.specs.declared.fault.OpenFault.TheVariants as open_fault
+use Rattle.cm_verdict.specs.Opening.{IsFaultIn}
 use Rattle.cm_recover.specs.Opened.{IsOlderFile}
 use Rattle.cm_commands.specs.Machine.{Base, machine_from}
 use Rattle.cm_lines.specs.Streams.{Io}

@@ -9,7 +9,8 @@ ghost use Rattle.cm_tool.specs.Applied.{RunsFromOpened, ApplyStops};
 
 use crate::script::{Outcome, ToolFault, run_to_end};
 use cm_disk::Disk;
-use cm_recover::{NotOpened, OpenFault};
+use cm_recover::NotOpened;
+use cm_verdict::OpenFault;
 use std::alloc::Global;
 use std::io::{BufRead, Write};
 use thiserror::Error;

@@ -2,8 +2,8 @@
 
 use crate::disks::{has_one_loader, new_disk, new_disk_of, replies};
 use cm_disk::{Disk, FuseDisk, SimDisk};
-use cm_recover::OpenFault;
 use cm_tool::{ApplyFault, Outcome, apply_script};
+use cm_verdict::OpenFault;
 use std::alloc::Global;
 use std::io::BufReader;
 use std::test::*;

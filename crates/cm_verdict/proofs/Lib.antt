@@ -7,12 +7,24 @@ mod WalksBack
 mod Heads
 mod Parts
 mod Contents
-mod Records
+mod KeptRecords
 mod Goings
--- Where a class was defined has no part in the rules, nor in what an entry does to rows.
-pub use Placed.{live_rule_bare}
--- The parts of a file: its superblock, its halves, and the records of rows.
-pub use Parts.{begun_with, half_within, part_long, bare_words}
--- The second pass: each live class has a record of a class that keeps the rules, under a name that
--- is new in its loader.
-pub use Records.{is_kept}
+mod Halves
+mod Readings
+mod RecordPlaces
+mod RecordRows
+mod RecordRanges
+mod Verdicts
+mod Passing
+mod Shared
+mod Assembled
+-- What rows with the words of their records are without them.
+pub use Parts.{bare_words}
+-- The place of a live row, and that its record is no longer than any may be.
+pub use RecordPlaces.{place_of, short_enough}
+-- Rows whose records give their names, with one more.
+pub use Passing.{more_named}
+-- The verdict, step by step, and the result for it.
+pub use Verdicts.{fault_told}
+-- Runs of reads, and the fault that they return.
+pub use Readings.{ok_no_fault, no_more, passed_on}

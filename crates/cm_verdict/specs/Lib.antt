@@ -6,4 +6,8 @@ pub mod Found
 pub mod Verdict
 pub mod Walking
 pub mod Kept
+pub mod Opening
+pub mod Ranges
+pub mod Judging
+pub mod Standing
 pub mod Laws

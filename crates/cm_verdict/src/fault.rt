@@ -1,9 +1,13 @@
-//! What is wrong with a file.
+//! What is wrong with a file, and why it isn't opened.
 
 ghost use Rattle.std.specs.Prelude.{◌≡◌, Some};
+ghost use Rattle.cm_verdict.specs.declared.fault.OpenFault.TheVariants as open_fault;
 ghost use Rattle.cm_verdict.specs.Faults.{damage_number};
-ghost use Rattle.cm_verdict.specs.Texts.{file_fault_text};
+ghost use Rattle.cm_verdict.specs.Opening.{fault_of};
+ghost use Rattle.cm_verdict.specs.Texts.{file_fault_text, open_fault_text};
 
+use cm_disk::DeviceFault;
+use std::alloc::{AllocError, AllocFailed};
 use std::error::Error;
 use std::fmt::{self, Display, Formatter};
 
@@ -79,3 +83,67 @@ impl Display for FileFault {
 }
 
 impl Error for FileFault {}
+
+/// Why a file isn't opened. What the file stands for is unchanged.
+#[derive(Clone, Copy, Debug, PartialEq, Eq)]
+pub enum OpenFault {
+    /// The file is shorter than a superblock, or its first bytes or its superblock's gate differ
+    /// from those of a cache.
+    NotACache,
+    /// The file's first damage, with the slot where it was found, as in [`FileFault`].
+    Damaged { what: Damage, slot: u32 },
+    /// The device failed.
+    Device,
+    /// An allocation failed.
+    NoMemory,
+}
+
+impl Display for OpenFault {
+    ghost output = { λ fault. Some (open_fault_text fault) };
+
+    fn fmt<W: fmt::Write>(&self, f: &mut Formatter<W>) -> fmt::Result {
+        match *self {
+            OpenFault::NotACache => FileFault::NotACache.fmt(f),
+            OpenFault::Damaged { what, slot } => FileFault::Damaged { what, slot }.fmt(f),
+            OpenFault::Device => write!(f, "device"),
+            OpenFault::NoMemory => write!(f, "memory"),
+        }
+    }
+}
+
+impl Error for OpenFault {}
+
+impl From<FileFault> for OpenFault {
+    ghost from_gives = { λ fault e. e ≡ fault_of fault };
+
+    fn from(fault: FileFault) -> OpenFault {
+        match fault {
+            FileFault::NotACache => OpenFault::NotACache,
+            FileFault::Damaged { what, slot } => OpenFault::Damaged { what, slot },
+        }
+    }
+}
+
+impl From<DeviceFault> for OpenFault {
+    ghost from_gives = { λ _ e. e ≡ open_fault.Device };
+
+    fn from(_fault: DeviceFault) -> OpenFault {
+        OpenFault::Device
+    }
+}
+
+impl From<AllocError> for OpenFault {
+    ghost from_gives = { λ _ e. e ≡ open_fault.NoMemory };
+
+    fn from(_error: AllocError) -> OpenFault {
+        OpenFault::NoMemory
+    }
+}
+
+impl<T: Drop> From<AllocFailed<T>> for OpenFault {
+    ghost from_gives = { λ _ e. e ≡ open_fault.NoMemory };
+
+    fn from(_error: AllocFailed<T>) -> OpenFault {
+        OpenFault::NoMemory
+    }
+}

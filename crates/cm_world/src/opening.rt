@@ -18,9 +18,8 @@ use crate::reply::Reply;
 use crate::world::World;
 use cm_disk::{Choice, SimDisk, durable_has_one_image};
 use cm_pool::Geometry;
-use cm_recover::{
-    FormatFault, NotOpened, OpenFault, format, new_file_is_empty, newest_is_not_older,
-};
+use cm_recover::{FormatFault, NotOpened, format, new_file_is_empty, newest_is_not_older};
+use cm_verdict::OpenFault;
 use std::alloc::Global;
 
 /// Opens the file of a disk.

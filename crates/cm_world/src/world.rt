@@ -10,8 +10,8 @@ use crate::event::Event;
 use crate::reply::Reply;
 use cm_disk::SimDisk;
 use cm_pool::Geometry;
-use cm_recover::OpenFault;
 use cm_session::Session;
+use cm_verdict::OpenFault;
 use std::alloc::Global;
 
 /// A cache over a disk in memory: the accepted cache, the committer of its disk, and the groups

@@ -4,7 +4,7 @@ use crate::files::{say_not_opened, tell_failure};
 use crate::status::fail;
 use cm_file_disk::{FileDisk, OpenError};
 use cm_maintenance::{NotReported, Status, check_to, list_to, trim_to};
-use cm_recover::is_older;
+use cm_verdict::is_older;
 use std::fs::{File, Files};
 use std::io;
 

@@ -5,8 +5,9 @@ ghost use Rattle.cm_arguments.specs.Action.{IsHelp, IsUsageError};
 
 use cm_arguments::UsageFault;
 use cm_maintenance::{Status, tell_fault};
-use cm_recover::{FormatFault, OpenFault};
+use cm_recover::FormatFault;
 use cm_tool::{Outcome, ToolFault};
+use cm_verdict::OpenFault;
 use std::fmt::Display;
 use std::io;
 

@@ -1,5 +1,5 @@
 use Rattle.std.proofs.Common.{◌∙◌, ℕ, List, Result, sym, subst}
-use Rattle.cm_recover.specs.declared.fault.OpenFault.{OpenFault}
+use Rattle.cm_verdict.specs.declared.fault.OpenFault.{OpenFault}
 use Rattle.cm_maintenance.specs.declared.report.Report.{Report}
 use Rattle.cm_maintenance.specs.declared.status.Status.TheVariants.{Done}
 use Rattle.cm_maintenance.specs.Texts.{report_line}

@@ -1,5 +1,5 @@
 use Rattle.cm_verdict.specs.Verdict.{verdict}
-use Rattle.cm_recover.proofs.{fault_told}
+use Rattle.cm_verdict.proofs.{fault_told}
 use Rattle.cm_maintenance.specs.Report.{Reports}
 use Rattle.cm_maintenance.proofs.Checked.{reports, counted}
 use Rattle.cm_maintenance.proofs.checking.check.Goals as goal

@@ -6,7 +6,7 @@ use Rattle.cm_guards.specs.Guards.{EachImage}
 use Rattle.cm_guards.proofs.{leaves_more, leaves_on}
 use Rattle.cm_commit.specs.States.{ShowsCommitted}
 use Rattle.cm_commit.specs.Trims.{roots_of_rows}
-use Rattle.cm_recover.specs.declared.fault.OpenFault.TheVariants as open_fault
+use Rattle.cm_verdict.specs.declared.fault.OpenFault.TheVariants as open_fault
 use Rattle.cm_maintenance.specs.declared.fault.MaintenanceFault.{MaintenanceFault}
 use Rattle.cm_maintenance.specs.declared.status.Status.{Status}
 use Rattle.cm_maintenance.specs.Reporting.{Writes, told, status_of, fault_status}

@@ -1,11 +1,11 @@
 use Rattle.std.proofs.Common.{◌≡◌, refl, ap, rules}
 use Rattle.cm_guards.proofs.{contents_are_image}
 use Rattle.cm_commit.specs.States.{CommitterState}
-use Rattle.cm_recover.specs.declared.fault.OpenFault.TheVariants as open_fault
+use Rattle.cm_verdict.specs.declared.fault.OpenFault.TheVariants as open_fault
 use Rattle.cm_recover.proofs.Opened.{front_rows, front_right, front_last, opens, same_shown}
 use Rattle.cm_recover.proofs.Opened.{sizes_told, journal_same}
 use Rattle.cm_recover.proofs.MovedOver.{then_through}
-use Rattle.cm_recover.proofs.Readings.{ok_no_fault}
+use Rattle.cm_verdict.proofs.{ok_no_fault}
 use Rattle.cm_recover.proofs.opening.open_by.Goals as goal
 
 pub restore-requires-clause-rows : goal.restore-requires-clause-rows

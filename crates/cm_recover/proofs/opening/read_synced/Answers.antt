@@ -1,7 +1,8 @@
 use Rattle.std.proofs.Common.{ℕ, List, subst, ap, rules}
 use Rattle.std.specs.Prelude.{is_ok}
 use Rattle.cm_verdict.specs.Verdict.{verdict}
-use Rattle.cm_recover.specs.Standing.{FollowsVerdict, IsStanding}
+use Rattle.cm_verdict.specs.Standing.{FollowsVerdict}
+use Rattle.cm_recover.specs.Standing.{IsStanding}
 use Rattle.cm_recover.proofs.SyncRuns.{not_synced, synced, always_ok, durable_after}
 use Rattle.cm_recover.proofs.opening.read_synced.Goals as goal
 

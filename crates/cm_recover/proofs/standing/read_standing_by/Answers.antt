@@ -1,59 +1,41 @@
-use Rattle.std.proofs.Common.{List, ℕ, Vec, Global, refl}
-use Rattle.cm_recover.specs.declared.fault.OpenFault.TheVariants as open_fault
-use Rattle.cm_recover.specs.declared.row_record.RowRecord.{RowRecord}
-use Rattle.cm_recover.specs.declared.standing.ReadRows.{ReadRows}
-use Rattle.cm_recover.specs.Judging.{Judges}
-use Rattle.cm_recover.specs.Standing.{IsReadOf, IsJudgedOf}
-use Rattle.cm_recover.proofs.Readings.{no_more, ok_no_fault}
-use Rattle.cm_recover.proofs.RecordRows.{never}
+use Rattle.std.proofs.Common.{refl}
+use Rattle.cm_verdict.specs.declared.fault.OpenFault.TheVariants as open_fault
+use Rattle.cm_verdict.specs.Verdict.{verdict}
+use Rattle.cm_verdict.proofs.{fault_told, ok_no_fault, passed_on, no_more}
+use Rattle.cm_recover.specs.Standing.{IsStanding}
 use Rattle.cm_recover.proofs.standing.read_standing_by.Goals as goal
 
--- what was read, with its records judged
-judged_in : (contents : List ℕ) (file : ReadRows) (judged : Vec RowRecord Global)
-    (GivesBack : Vec RowRecord Global → Vec RowRecord Global → Type 0) → Judges GivesBack
-    → GivesBack file.records judged → IsReadOf contents file → IsJudgedOf contents (record {
-      pass = file.pass;
-      found = file.found;
-      records = judged;
-      half = file.half;
-      head = file.head;
-      other_open = file.other_open;
-      end = file.end;
-    })
-judged_in contents file judged GivesBack judges back read = record {
-  found = read.found;
-  is = record {
-    found_is = read.is.found_is;
-    geometry = read.is.geometry;
-    long = read.is.long;
-    number = read.is.number;
-    rows = read.is.rows;
-    half = read.is.half;
-    head = read.is.head;
-    end = read.is.end;
-    other = read.is.other;
-    short = read.is.short;
-    live = read.is.live;
-  };
-  judged = judges file.records judged _ back read.taken;
-}
+pub returns-in_err-file : goal.returns-in_err-file
+returns-in_err-file g c =
+    let view = g.D.Disk.view in
+    let contents = view.contents c.args.disk.now in
+    let e = c.in_err-file.field-0.0 in
+    record {
+      standing = fault_told (IsStanding contents) c.from_residual.result e (verdict contents)
+          c.from_residual.ensures.1 c.in_err-file.ensures.judged;
+      reads = passed_on view c.args.disk.now c.read_verdict.new.disk c.read_verdict.result
+          c.from_residual.result e open_fault.Device c.in_err-file.was c.from_residual.ensures.1
+          c.read_verdict.ensures.reads;
+    }
 
-pub stand-requires : goal.stand-requires
-stand-requires g c =
-    let contents = g.D.Disk.view.contents c.args.disk.now in (
-      contents,
-      judged_in contents c.in_ok-file.file c.judge.result _ c.requires.judges
-          c.judge.ensures c.in_ok-file.ensures.rows,
-    )
+pub of-requires : goal.of-requires
+of-requires g c =
+    let contents = g.D.Disk.view.contents c.args.disk.now in
+    let j = c.in_ok-file.ensures.judged in
+    (contents, j.told, j.alike)
 
 pub returns : goal.returns
 returns g c =
-    let contents = g.D.Disk.view.contents c.args.disk.now in
+    let view = g.D.Disk.view in
+    let contents = view.contents c.args.disk.now in
+    let j = c.in_ok-file.ensures.judged in
     record {
-      standing = c.stand.ensures.standing contents
-          (judged_in contents c.in_ok-file.file c.judge.result _ c.requires.judges
-          c.judge.ensures c.in_ok-file.ensures.rows);
-      reads = no_more g.D.Disk.view c.args.disk.now c.read_rows.new.disk _ _
-          (never c.stand.result open_fault.Device c.stand.ensures.in_memory)
-          (ok_no_fault _ _ open_fault.Device refl) c.in_ok-file.ensures.reads;
+      standing = record {
+        told = j.told;
+        verdict_is = j.verdict_is;
+        alike = c.of.ensures contents j.told j.alike;
+      };
+      reads = no_more view c.args.disk.now c.read_verdict.new.disk _ _
+          (ok_no_fault _ _ open_fault.Device refl) (ok_no_fault _ _ open_fault.Device refl)
+          c.in_ok-file.ensures.reads;
     }

@@ -52,8 +52,8 @@ renew-requires g c =
           c.if-file-ge-ENTRY_VERSION.false (view.unsynced c.args.disk.now) c.requires.stored;
     }
 
-pub returns-in_err-journal-clause-images : goal.returns-in_err-journal-clause-images
-returns-in_err-journal-clause-images g c =
+pub returns-in-Ok-clause-images : goal.returns-in-Ok-clause-images
+returns-in-Ok-clause-images g c =
     let view = g.D.Disk.view in
     let now = view.contents c.args.disk.now in
     let file = c.args.file.now in
@@ -64,8 +64,20 @@ returns-in_err-journal-clause-images g c =
     c.verdict_is_exact.ensures.stands c.words_tell_name.ensures c.others_are_told.ensures now file
     c.requires.standing) c.renew.ensures.images
 
-pub returns-clause-images : goal.returns-clause-images
-returns-clause-images g c =
+pub returns-in-Err-Device-clause-images : goal.returns-in-Err-Device-clause-images
+returns-in-Err-Device-clause-images g c =
+    let view = g.D.Disk.view in
+    let now = view.contents c.args.disk.now in
+    let file = c.args.file.now in
+    leaves_more view c.args.disk.now c.renew.new.disk
+    (λ image. IsFramed file.journal.geometry image (rows_with arc_value file.committed.rows)
+    file.journal.number) (StandsForSame now)
+    (same_framed c.found_is_live.ensures c.found_is_framed.ensures.framed
+    c.verdict_is_exact.ensures.stands c.words_tell_name.ensures c.others_are_told.ensures now file
+    c.requires.standing) c.renew.ensures.images
+
+pub returns-in-Err-NoMemory-clause-images : goal.returns-in-Err-NoMemory-clause-images
+returns-in-Err-NoMemory-clause-images g c =
     let view = g.D.Disk.view in
     let now = view.contents c.args.disk.now in
     let file = c.args.file.now in

@@ -1,7 +1,7 @@
 use Rattle.std.proofs.Common.{arith}
 use Rattle.cm_guards.proofs.{reading}
 use Rattle.cm_verdict.specs.Verdict.{verdict}
-use Rattle.cm_recover.proofs.{fault_told}
+use Rattle.cm_verdict.proofs.{fault_told}
 use Rattle.cm_statistics.specs.Statistics.{Measures}
 use Rattle.cm_statistics.proofs.Measured.{small}
 use Rattle.cm_statistics.proofs.measuring.statistics.Goals as goal

@@ -1,4 +1,4 @@
-use Rattle.cm_verdict.proofs.Records.{verdict_stands, stands_in_verdict}
+use Rattle.cm_verdict.proofs.KeptRecords.{verdict_stands, stands_in_verdict}
 use Rattle.cm_verdict.proofs.laws.verdict_is_exact.Goals as goal
 
 pub returns-clause-stands : goal.returns-clause-stands

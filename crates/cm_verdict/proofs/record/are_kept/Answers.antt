@@ -2,7 +2,7 @@ use Rattle.std.proofs.Common.{None, sym, ap, ◌∙◌}
 use Rattle.std.proofs.lemmas.Result.{IfOk-weaker}
 use Rattle.cm_record_layout.specs.Layout.{IsRecord}
 use Rattle.cm_rules.specs.Fault.{fault}
-use Rattle.cm_verdict.proofs.Records.{kept_by, no_record}
+use Rattle.cm_verdict.proofs.KeptRecords.{kept_by, no_record}
 use Rattle.cm_verdict.proofs.record.are_kept.Goals as goal
 
 pub returns-then-not-is_record : goal.returns-then-not-is_record

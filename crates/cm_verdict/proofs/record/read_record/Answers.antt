@@ -1,6 +1,6 @@
 use Rattle.std.proofs.Common.{◌≡◌, true, sym, ◌∙◌, ap, subst, length, arith}
 use Rattle.cm_record_layout.specs.Layout.{IsRecord}
-use Rattle.cm_verdict.proofs.Records.{a_record}
+use Rattle.cm_verdict.proofs.KeptRecords.{a_record}
 use Rattle.cm_verdict.proofs.record.read_record.Goals as goal
 
 pub of_words-requires : goal.of_words-requires

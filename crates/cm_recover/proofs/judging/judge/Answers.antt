@@ -1,6 +1,0 @@
-use Rattle.cm_recover.proofs.RecordRows.{all_are_judged}
-use Rattle.cm_recover.proofs.judging.judge.Goals as goal
-
-pub returns : goal.returns
-returns c = all_are_judged c.args.records c.deref_mut.result.now c.judge_rows.new.records
-    c.deref_mut.ensures.value c.judge_rows.auto.records c.judge_rows.ensures
