@@ -55,7 +55,7 @@ fn class_bytes(alloc: Global, name: u8) -> Result<Vec<u8>, AllocError> {
 /// The class of a name of one letter.
 pub fn class(alloc: Global, name: u8) -> Result<Prepared, Refusal> {
     let bytes = class_bytes(alloc, name)?;
-    prepare(alloc, &bytes)
+    Ok(prepare(alloc, &bytes)?)
 }
 
 fn await_hold(gate: &Gate) -> bool {

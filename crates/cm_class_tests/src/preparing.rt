@@ -1,15 +1,15 @@
 //! Classes that are prepared, and bytes that can't be.
 
 use crate::samples::{CLASS_A, join_parts, with_attribute};
-use cm_commands::{BadClass, Prepared, Refusal, prepare};
+use cm_commands::{BadClass, PrepareFault, Prepared, Refusal, prepare};
 use cm_rules::{Broken, Rule, Spot};
 use std::alloc::{AllocError, Global};
 use std::test::Fail;
 
 // Tries again if an allocation failed: nothing is changed then.
-fn prepare_bytes(alloc: Global, bytes: &[u8]) -> Result<Prepared, Refusal> {
+fn prepare_bytes(alloc: Global, bytes: &[u8]) -> Result<Prepared, PrepareFault> {
     match prepare(alloc, bytes) {
-        Err(Refusal::NoMemory) => prepare(alloc, bytes),
+        Err(PrepareFault::NoMemory) => prepare(alloc, bytes),
         answer => answer,
     }
 }
@@ -44,7 +44,7 @@ fn a_class_is_shared(rt: HostRuntime) -> Result<(), Fail> {
 /// Whether the bytes of these parts are rejected as such a class.
 fn is_refused(alloc: Global, parts: &[&[u8]], expected: BadClass) -> Result<bool, AllocError> {
     let bytes = join_parts(alloc, parts)?;
-    Ok(prepare_bytes(alloc, &bytes).err() == Some(Refusal::BadClass(expected)))
+    Ok(prepare_bytes(alloc, &bytes).err() == Some(PrepareFault::BadClass(expected)))
 }
 
 /// What class A begins with here, what comes after it, and why it is no class: one byte more; other

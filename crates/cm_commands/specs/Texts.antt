@@ -1,17 +1,9 @@
 -- The text of why a command isn't done.
 use Rattle.std.specs.Prelude.{ℕ, List, ◌++◌, codes}
 use Rattle.std.specs.Fmt.{decimal}
-use Rattle.cm_rules.specs.Texts.{broken_text}
-use Rattle.cm_commands.specs.declared.bad_class.BadClass.{BadClass}
-use Rattle.cm_commands.specs.declared.bad_class.BadClass.TheVariants as bad
+use Rattle.cm_rules.specs.Texts.{bad_class_text}
 use Rattle.cm_commands.specs.declared.refusal.Refusal.{Refusal}
 use Rattle.cm_commands.specs.declared.refusal.Refusal.TheVariants as refusal
-
-abbrev pub bad_class_text : BadClass → List ℕ
-bad_class_text bad.Truncated = codes "truncated"
-bad_class_text (bad.Trailing at) = codes "trailing " ++ decimal at
-bad_class_text (bad.Malformed at) = codes "malformed " ++ decimal at
-bad_class_text (bad.Rule broken) = broken_text broken
 
 abbrev pub refusal_text : Refusal → List ℕ
 refusal_text refusal.BadName = codes "name"

@@ -5,39 +5,26 @@ ghost use Rattle.cm_class.specs.declared.class_file.ClassFile.{ClassFile};
 ghost use Rattle.cm_record.specs.Layout.{lay, IsRecord, IsRecordOf};
 ghost use Rattle.cm_rules.specs.Answer.{SpellsRightClass};
 ghost use Rattle.cm_rules.specs.Fault.{fault};
-ghost use Rattle.cm_commands.specs.Prepare.{IsUnbuilt, IsUnprepared, refusal_for};
+ghost use Rattle.cm_commands.specs.Prepare.{IsUnbuilt, IsUnprepared};
 
-use crate::bad_class::BadClass;
+use crate::fault::PrepareFault;
 use crate::prepared::Prepared;
-use crate::refusal::Refusal;
 use cm_class::Class;
 use cm_record::{Record, RecordRefusal, build};
 use cm_record_laying::lay_file;
 use cm_record_rules::judge_words;
-use cm_rules::{ClassFault, read_class};
+use cm_rules::read_class;
 use std::alloc::Global;
 
-fn of_class(fault: ClassFault) -> Refusal
-    ensures { result ≡ refusal_for fault }
-{
-    match fault {
-        ClassFault::Truncated => Refusal::BadClass(BadClass::Truncated),
-        ClassFault::Trailing(at) => Refusal::BadClass(BadClass::Trailing(at)),
-        ClassFault::Malformed(at) => Refusal::BadClass(BadClass::Malformed(at)),
-        ClassFault::Rule(broken) => Refusal::BadClass(BadClass::Rule(broken)),
-        ClassFault::NoMemory => Refusal::NoMemory,
-    }
-}
-
 /// Builds the record of a class that was read.
-fn build_record(alloc: Global, class: &Class) -> Result<Record, Refusal>
+fn build_record(alloc: Global, class: &Class) -> Result<Record, PrepareFault>
     ensures ok { IfOk result (λ words. words ≡ lay class.now) }
     ensures refused { IfErr result (IsUnbuilt class.now) }
 {
     match build(alloc, class) {
         Ok(record) => Ok(record),
-        Err(RecordRefusal::TooLong) => Err(Refusal::RecordTooLong),
-        Err(RecordRefusal::NoMemory) => Err(Refusal::NoMemory),
+        Err(RecordRefusal::TooLong) => Err(PrepareFault::RecordTooLong),
+        Err(RecordRefusal::NoMemory) => Err(PrepareFault::NoMemory),
     }
 }
 
@@ -69,19 +56,17 @@ fn record_laid(alloc: Global, bytes: &[u8]) -> Option<Record>
 }
 
 /// Reads a class from its bytes, searches for the first rule that it breaks, and builds its record.
-fn record_searched(alloc: Global, bytes: &[u8]) -> Result<Record, Refusal>
+fn record_searched(alloc: Global, bytes: &[u8]) -> Result<Record, PrepareFault>
     ensures ok { IfOk result (λ words. (c : ClassFile) × SpellsRightClass bytes.now c
         × (words ≡ lay c)) }
     ensures refused { IfErr result (IsUnprepared bytes.now) }
 {
-    match read_class(alloc, bytes) {
-        Ok(class) => build_record(alloc, &class),
-        Err(fault) => Err(of_class(fault)),
-    }
+    let class = read_class(alloc, bytes)?;
+    build_record(alloc, &class)
 }
 
 /// Builds the record of a class's bytes, which are checked against the rules.
-fn record_of_bytes(alloc: Global, bytes: &[u8]) -> Result<Record, Refusal>
+fn record_of_bytes(alloc: Global, bytes: &[u8]) -> Result<Record, PrepareFault>
     ensures ok { IfOk result (λ words. (c : ClassFile) × SpellsRightClass bytes.now c
         × (words ≡ lay c)) }
     ensures refused { IfErr result (IsUnprepared bytes.now) }
@@ -95,16 +80,13 @@ fn record_of_bytes(alloc: Global, bytes: &[u8]) -> Result<Record, Refusal>
 
 /// Reads a class, checks it against the rules and builds its record. No lock is needed for it.
 ///
-/// It is refused, in this order, as `BadClass` for the file's shape, as `BadClass` for the first
-/// rule that it breaks, and as `RecordTooLong` if its record is longer than the limit. `NoMemory`
-/// is returned only for bytes whose shape has no fault. There are no other refusals.
-pub fn prepare(alloc: Global, bytes: &[u8]) -> Result<Prepared, Refusal>
+/// It fails, in this order, with `BadClass` for the file's shape, with `BadClass` for the first
+/// rule that it breaks, and with `RecordTooLong` if its record is longer than the limit. `NoMemory`
+/// is returned only for bytes whose shape has no fault.
+pub fn prepare(alloc: Global, bytes: &[u8]) -> Result<Prepared, PrepareFault>
     ensures ok { IfOk result (λ p. (c : ClassFile) × SpellsRightClass bytes.now c × (p ≡ lay c)) }
     ensures refused { IfErr result (IsUnprepared bytes.now) }
 {
     let record = record_of_bytes(alloc, bytes)?;
-    match Prepared::of_record(alloc, record) {
-        Ok(prepared) => Ok(prepared),
-        Err(_) => Err(Refusal::NoMemory),
-    }
+    Ok(Prepared::of_record(alloc, record)?)
 }

@@ -5,7 +5,7 @@ ghost use Rattle.cm_commands.specs.Refusals.{refusal_number};
 ghost use Rattle.cm_commands.specs.Texts.{refusal_text};
 ghost use Rattle.cm_commands.specs.declared.refusal.Refusal.TheVariants.{NoMemory};
 
-use crate::bad_class::BadClass;
+use cm_rules::BadClass;
 use std::alloc::AllocError;
 use std::error::Error;
 use std::fmt::{self, Display, Formatter};

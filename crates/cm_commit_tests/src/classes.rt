@@ -1,6 +1,6 @@
 //! Classes to store.
 
-use cm_commands::{Prepared, Refusal, prepare};
+use cm_commands::{PrepareFault, Prepared, prepare};
 use std::alloc::Global;
 use std::test::Fail;
 
@@ -11,7 +11,7 @@ pub const CLASS_A: &[u8] = b"cafebabe000000340005070002010001410700040100106a617
 /// The class of these bytes. It is prepared once more if an allocation failed.
 pub fn class_of(alloc: Global, bytes: &[u8]) -> Result<Prepared, Fail> {
     let class = match prepare(alloc, bytes) {
-        Err(Refusal::NoMemory) => prepare(alloc, bytes),
+        Err(PrepareFault::NoMemory) => prepare(alloc, bytes),
         answer => answer,
     };
     Ok(class.ok().ok_or("a class")?)

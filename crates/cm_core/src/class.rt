@@ -3,7 +3,7 @@
 use crate::handle::Handle;
 use crate::inner::Inner;
 use crate::status::of_refusal;
-use cm_commands::{BadClass, Refusal, prepare};
+use cm_commands::{BadClass, PrepareFault, Refusal, prepare};
 use cm_rules::Spot;
 use std::alloc::Global;
 
@@ -58,11 +58,11 @@ pub extern "C" fn cmcore_prepare(
 ) -> i32 {
     match prepare(alloc, bytes) {
         Ok(class) => prepared.fill(alloc, Inner::Prepared(class)),
-        Err(refusal) => {
-            if let Refusal::BadClass(fault) = &refusal {
-                explain(fault, bad);
+        Err(fault) => {
+            if let PrepareFault::BadClass(what) = &fault {
+                explain(what, bad);
             }
-            of_refusal(&refusal)
+            of_refusal(&Refusal::from(fault))
         }
     }
 }

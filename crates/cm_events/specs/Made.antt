@@ -5,7 +5,7 @@ use Rattle.std.specs.List.{flat_map}
 use Rattle.cm_class.specs.declared.class_file.ClassFile.{ClassFile}
 use Rattle.cm_record.specs.Layout.{lay}
 use Rattle.cm_rules.specs.Answer.{SpellsRightClass}
-use Rattle.cm_commands.specs.Prepare.{IsUnprepared}
+use Rattle.cm_commands.specs.Prepare.{IsRefusedBytes}
 use Rattle.cm_commands.specs.Names.{names_kept}
 use Rattle.cm_commands.specs.declared.command.Command.{Command}
 use Rattle.cm_commands.specs.declared.command.Command.TheVariants as command
@@ -67,7 +67,7 @@ pub record IsRefused (asked : Option EventAsked) (r : Refusal) : Type 0 where
   pub loader : List ℕ
   pub bytes : List ℕ
   pub asked_is : asked ≡ Some (AsksDefine loader bytes)
-  pub unprepared : IsUnprepared bytes r
+  pub refused : IsRefusedBytes bytes r
 
 abbrev pub Comes : Option EventAsked → Made → Type 0
 Comes asked (made.Runs e) = IsEvent asked e

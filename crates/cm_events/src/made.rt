@@ -101,7 +101,7 @@ fn define_bytes<'a>(alloc: Global, loader: &'a [u8], bytes: &[u8]) -> Made<'a>
 {
     match prepare(alloc, bytes) {
         Ok(class) => Made::Runs(Event::Accept(Command::Define(loader, class))),
-        Err(refusal) => Made::Refused(refusal),
+        Err(fault) => Made::Refused(Refusal::from(fault)),
     }
 }
 

@@ -11,6 +11,6 @@ mod unsealed;
 
 // What is accepted is defined in a lower crate and exported here too, so that a user of the cache
 // needs no other crate.
-pub use cm_commands::{Command, Names, Prepared, Refusal, prepare};
+pub use cm_commands::{Command, Names, PrepareFault, Prepared, Refusal, prepare};
 pub use front::{Front, Stranger};
 pub use laws::{arenas_are_of_rows, chains_go_with_rows, places_keep_rules};

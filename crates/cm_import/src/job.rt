@@ -3,7 +3,7 @@
 ghost use Rattle.std.specs.Prelude.{IsSome};
 
 use crate::version::{Version, other_version};
-use cm_commands::{Prepared, Refusal, prepare};
+use cm_commands::{PrepareFault, Prepared, Refusal, prepare};
 use cm_jar::{Entry, EntryFault};
 use std::alloc::Global;
 
@@ -84,7 +84,7 @@ fn outcome_of(alloc: Global, bytes: &[u8]) -> Outcome {
     }
     match prepare(alloc, bytes) {
         Ok(class) => Outcome::Ready(class),
-        Err(Refusal::NoMemory) => Outcome::NoMemory,
-        Err(refusal) => Outcome::Refused(refusal),
+        Err(PrepareFault::NoMemory) => Outcome::NoMemory,
+        Err(fault) => Outcome::Refused(Refusal::from(fault)),
     }
 }

@@ -8,7 +8,7 @@ mod running;
 mod work;
 
 pub use cm_cache::{Cache, Naming, Pass};
-pub use cm_commands::{Names, Prepared, Refusal, prepare};
+pub use cm_commands::{Names, PrepareFault, Prepared, Refusal, prepare};
 pub use cm_disk::{Disk, SimDisk};
 pub use cm_file_disk::{CreateError, FileDisk, OpenError, create as create_file};
 pub use cm_pool::Geometry;

@@ -5,9 +5,11 @@ use Rattle.cm_class.specs.declared.fault.ShapeFault.{ShapeFault}
 use Rattle.cm_class.specs.declared.fault.ShapeFault.TheVariants as shapes
 use Rattle.cm_class.specs.Shape.{Spells, IsSpelling, IsTruncated, IsTrailing, IsMalformed}
 use Rattle.cm_rules.specs.declared.rule.Broken.{Broken}
+use Rattle.cm_rules.specs.declared.fault.BadClass.{BadClass}
+use Rattle.cm_rules.specs.declared.fault.BadClass.TheVariants.{Truncated, Trailing, Malformed}
+use Rattle.cm_rules.specs.declared.fault.BadClass.TheVariants.{Rule}
 use Rattle.cm_rules.specs.declared.fault.ClassFault.{ClassFault}
-use Rattle.cm_rules.specs.declared.fault.ClassFault.TheVariants.{Truncated, Trailing, Malformed}
-use Rattle.cm_rules.specs.declared.fault.ClassFault.TheVariants.{Rule, NoMemory}
+use Rattle.cm_rules.specs.declared.fault.ClassFault.TheVariants.{Bad, NoMemory}
 use Rattle.cm_rules.specs.Fault.{fault}
 
 -- the bytes are the spelling of this class, which keeps the rules
@@ -20,22 +22,23 @@ pub record SpellsRightClass (bytes : List ℕ) (c : ClassFile) : Type 0 where
 abbrev pub IsBroken : List ℕ → Broken → Type 0
 IsBroken bytes broken = (c : ClassFile) × Spells bytes c × (fault c ≡ Some broken)
 
+-- what this says about the bytes
+abbrev pub IsBadClass : List ℕ → BadClass → Type 0
+IsBadClass bytes Truncated = IsTruncated bytes
+IsBadClass bytes (Trailing at) = IsTrailing bytes at
+IsBadClass bytes (Malformed at) = IsMalformed bytes at
+IsBadClass bytes (Rule broken) = IsBroken bytes broken
+
 -- what a fault says about the bytes; a failed allocation is reported only for bytes that spell a
 -- class
 abbrev pub IsClassFault : List ℕ → ClassFault → Type 0
-IsClassFault bytes Truncated = IsTruncated bytes
-IsClassFault bytes (Trailing at) = IsTrailing bytes at
-IsClassFault bytes (Malformed at) = IsMalformed bytes at
-IsClassFault bytes (Rule broken) = IsBroken bytes broken
+IsClassFault bytes (Bad bad) = IsBadClass bytes bad
 IsClassFault bytes NoMemory = IsSpelling bytes
 
 -- what a result says about the bytes; a failed allocation is not an answer
 abbrev pub IsReading : List ℕ → Result ClassFile ClassFault → Type 0
 IsReading bytes (Ok c) = SpellsRightClass bytes c
-IsReading bytes (Err Truncated) = IsTruncated bytes
-IsReading bytes (Err (Trailing at)) = IsTrailing bytes at
-IsReading bytes (Err (Malformed at)) = IsMalformed bytes at
-IsReading bytes (Err (Rule broken)) = IsBroken bytes broken
+IsReading bytes (Err (Bad bad)) = IsBadClass bytes bad
 IsReading bytes (Err NoMemory) = ⊥
 
 -- the result is correct, or an allocation failed
@@ -45,7 +48,7 @@ IsUnlessRefused bytes (Err fault) = IsClassFault bytes fault
 
 -- a fault of the shape, as a fault of a class
 abbrev pub class_fault_of : ShapeFault → ClassFault
-class_fault_of shapes.Truncated = Truncated
-class_fault_of (shapes.Trailing at) = Trailing at
-class_fault_of (shapes.Malformed at) = Malformed at
+class_fault_of shapes.Truncated = Bad Truncated
+class_fault_of (shapes.Trailing at) = Bad (Trailing at)
+class_fault_of (shapes.Malformed at) = Bad (Malformed at)
 class_fault_of shapes.NoMemory = NoMemory

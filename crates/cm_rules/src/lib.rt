@@ -10,7 +10,7 @@ mod rule;
 mod rules;
 mod search;
 
-pub use fault::ClassFault;
+pub use fault::{BadClass, ClassFault};
 pub use laws::fault_is_the_first;
 pub use read::{first_fault, read_class};
 pub use rule::{Broken, Rule, Spot};

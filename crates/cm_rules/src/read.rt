@@ -4,14 +4,13 @@ ghost use Rattle.cm_rules.specs.declared.fault.ClassFault.{ClassFault};
 ghost use Rattle.cm_rules.specs.Fault.{fault, first_of, all_rules};
 ghost use Rattle.cm_class.specs.Shape.{IsSpelling};
 ghost use Rattle.cm_rules.specs.Answer.{SpellsRightClass, IsClassFault, IsReading, IsUnlessRefused};
-ghost use Rattle.cm_rules.specs.Answer.{class_fault_of};
 
-use crate::fault::ClassFault;
+use crate::fault::{BadClass, ClassFault};
 use crate::findings::Findings;
 use crate::keeps::keeps_rules;
 use crate::rule::{Broken, Rule};
 use crate::search::broken_spot;
-use cm_class::{Class, ShapeFault, read_shape};
+use cm_class::{Class, read_shape};
 use std::alloc::{AllocError, Global};
 
 /// The rules, in the order in which they are checked.
@@ -70,27 +69,13 @@ pub fn first_fault(alloc: Global, class: &Class) -> Result<Option<Broken>, Alloc
     Ok(first_of(&findings, &RULES))
 }
 
-fn class_fault(fault: ShapeFault) -> ClassFault
-    ensures { result ≡ class_fault_of fault }
-{
-    match fault {
-        ShapeFault::Truncated => ClassFault::Truncated,
-        ShapeFault::Trailing(at) => ClassFault::Trailing(at),
-        ShapeFault::Malformed(at) => ClassFault::Malformed(at),
-        ShapeFault::NoMemory => ClassFault::NoMemory,
-    }
-}
-
 fn read_and_judge<'a>(alloc: Global, bytes: &'a [u8]) -> Result<Class<'a>, ClassFault>
     ensures { IsUnlessRefused bytes.now result }
 {
-    match read_shape(alloc, bytes) {
-        Err(fault) => Err(class_fault(fault)),
-        Ok(class) => match first_fault(alloc, &class) {
-            Ok(None) => Ok(class),
-            Ok(Some(broken)) => Err(ClassFault::Rule(broken)),
-            Err(_) => Err(ClassFault::NoMemory),
-        },
+    let class = read_shape(alloc, bytes)?;
+    match first_fault(alloc, &class)? {
+        Some(broken) => Err(ClassFault::Bad(BadClass::Rule(broken))),
+        None => Ok(class),
     }
 }
 

@@ -17,7 +17,7 @@ use Rattle.cm_rules.specs.Answer.{SpellsRightClass}
 use Rattle.cm_state.specs.Step.{Change, AddLoader, Define, Unload, Tighten, UnloadAll}
 use Rattle.cm_commands.specs.declared.refusal.Refusal.{Refusal}
 use Rattle.cm_commands.specs.declared.refusal.Refusal.TheVariants as refusal
-use Rattle.cm_commands.specs.Prepare.{IsUnprepared}
+use Rattle.cm_commands.specs.Prepare.{IsRefusedBytes}
 use Rattle.cm_commands.specs.Names.{names_kept}
 use Rattle.cm_commands.specs.Machine.{Machine, Asks, Refuses}
 use Rattle.cm_handover.specs.Laws.{Finds}
@@ -158,11 +158,11 @@ class_named bytes words c tell right laid short =
 -- bytes that are no class
 pub answers_fault : (sizes : Sizes) (loader digits bytes : List ℕ) (refusal : Refusal)
     (old : Served)
-    → decode_of digits ≡ Ok bytes → IsUnprepared bytes refusal
+    → decode_of digits ≡ Ok bytes → IsRefusedBytes bytes refusal
     → AnswersAsked sizes (Some (AsksDefine loader digits)) old (refusal_reply refusal) old
-answers_fault sizes loader digits bytes refusal old decoded unprepared =
+answers_fault sizes loader digits bytes refusal old decoded refused =
     subst (λ r. AnswersDefine sizes loader r old (refusal_reply refusal) old) (sym decoded)
-    (inl (record { refusal = refusal; unprepared = unprepared; reply = refl; same = refl }))
+    (inl (record { refusal = refusal; refused = refused; reply = refl; same = refl }))
 
 -- digits that can't be read, though no allocation failed
 pub not_memory : (digits : List ℕ) (e : FromHexError) (is : Bool) → (e ≡ OutOfMemory → is ≡ true)

@@ -7,7 +7,7 @@ use Rattle.cm_class.specs.declared.constant.Slot.TheVariants.{Usable}
 use Rattle.cm_class.specs.declared.class_file.ClassFile.{ClassFile}
 use Rattle.cm_rules.specs.declared.rule.Rule.TheVariants as rules
 use Rattle.cm_rules.specs.declared.rule.Spot.TheVariants as spot
-use Rattle.cm_commands.specs.declared.bad_class.BadClass.TheVariants as bad
+use Rattle.cm_rules.specs.declared.fault.BadClass.TheVariants as bad
 use Rattle.cm_commands.specs.declared.refusal.Refusal.TheVariants as refusal
 use Rattle.cm_tool.specs.declared.reply.ReplyKind.TheVariants as kind
 use Rattle.cm_tool.specs.Texts.{number_reply, defined_reply, none_reply, class_reply}

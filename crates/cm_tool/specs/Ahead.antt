@@ -7,7 +7,7 @@ use Rattle.cm_record.specs.Layout.{lay}
 use Rattle.cm_record.specs.Names.{class_name_in}
 use Rattle.cm_rules.specs.Answer.{SpellsRightClass}
 use Rattle.cm_commands.specs.declared.refusal.Refusal.TheVariants as refusal
-use Rattle.cm_commands.specs.Prepare.{IsUnprepared}
+use Rattle.cm_commands.specs.Prepare.{IsRefusedBytes}
 use Rattle.cm_lines.specs.declared.line_buffer.LineBuffer.{LineBuffer}
 use Rattle.cm_lines.specs.Lines.{AsksDefine, asked_by}
 use Rattle.cm_lines.specs.Streams.{HoldsLine}
@@ -28,7 +28,7 @@ IsClassOf decoded (Ready words name) =
     (bytes : List ℕ) × (decoded ≡ Ok bytes) × AreWordsOf bytes words
     × (name.items ≡ class_name_in words)
 IsClassOf decoded (Refused r) =
-    ((bytes : List ℕ) × (decoded ≡ Ok bytes) × IsUnprepared bytes r)
+    ((bytes : List ℕ) × (decoded ≡ Ok bytes) × IsRefusedBytes bytes r)
     ⊎ ((e : FromHexError) × (decoded ≡ Err e) × (r ≡ refusal.BadLine))
 
 -- the line of this text defines that

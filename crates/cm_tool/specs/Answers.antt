@@ -12,7 +12,7 @@ use Rattle.cm_record.specs.Names.{class_name_of}
 use Rattle.cm_rules.specs.Answer.{SpellsRightClass}
 use Rattle.cm_state.specs.Step.{Change, AddLoader, Define, Unload, Tighten, UnloadAll}
 use Rattle.cm_commands.specs.declared.refusal.Refusal.{Refusal}
-use Rattle.cm_commands.specs.Prepare.{IsUnprepared}
+use Rattle.cm_commands.specs.Prepare.{IsRefusedBytes}
 use Rattle.cm_commands.specs.Names.{names_kept}
 use Rattle.cm_commands.specs.Machine.{Machine, Accepts, Refuses}
 use Rattle.cm_handover.specs.Laws.{Finds}
@@ -84,7 +84,7 @@ IsBadLine old given new = (given ≡ bad_line_reply) × (new ≡ old)
 pub record AnswersFault (bytes : List ℕ) (old : Served) (given : ReplyText) (new : Served)
     : Type 0 where
   pub refusal : Refusal
-  pub unprepared : IsUnprepared bytes refusal
+  pub refused : IsRefusedBytes bytes refusal
   pub reply : given ≡ refusal_reply refusal
   pub same : new ≡ old
 

@@ -7,7 +7,7 @@ use Rattle.cm_record.specs.Layout.{IsRecordOf}
 use Rattle.cm_record.specs.Names.{class_name_in}
 use Rattle.cm_state.specs.Step.{Change, AddLoader, Define, Unload, Tighten, UnloadAll}
 use Rattle.cm_commands.specs.declared.refusal.Refusal.{Refusal}
-use Rattle.cm_commands.specs.Prepare.{IsUnprepared}
+use Rattle.cm_commands.specs.Prepare.{IsRefusedBytes}
 use Rattle.cm_commands.specs.Names.{names_kept}
 use Rattle.cm_cache.specs.Shared.{PassState, ReportsChange}
 use Rattle.cm_lines.specs.Escapes.{unescaped}
@@ -40,7 +40,7 @@ abbrev pub RepliesToDefine : List ℕ → Result (List ℕ) FromHexError → Pas
     → PassState → Type 0
 RepliesToDefine loader (Err e) old given new = IsUnasked bad_line_reply old given new
 RepliesToDefine loader (Ok bytes) old given new =
-    ((r : Refusal) × IsUnprepared bytes r × IsUnasked (refusal_reply r) old given new)
+    ((r : Refusal) × IsRefusedBytes bytes r × IsUnasked (refusal_reply r) old given new)
     ⊎ ((words : List ℕ) × AreWordsOf bytes words
     × RepliesTo (Define loader words) (λ n. defined_reply n (class_name_in words)) old given new)
 

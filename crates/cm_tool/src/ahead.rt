@@ -133,7 +133,7 @@ fn class_of_bytes(alloc: Global, bytes: &[u8]) -> LineClass
 {
     let class = match prepare(alloc, bytes) {
         Ok(class) => class,
-        Err(refusal) => return LineClass::Refused(refusal),
+        Err(fault) => return LineClass::Refused(Refusal::from(fault)),
     };
     match class.class_name(alloc) {
         Ok(name) => LineClass::Ready(class, name),

@@ -131,7 +131,7 @@ fn define_bytes<D: Disk>(
 {
     match prepare(alloc, bytes) {
         Ok(class) => define_class(alloc, session, loader, class),
-        Err(refusal) => Reply::refused(alloc, refusal),
+        Err(fault) => Reply::refused(alloc, Refusal::from(fault)),
     }
 }
 

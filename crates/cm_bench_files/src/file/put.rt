@@ -2,7 +2,7 @@
 
 use crate::file::counted::{CountedDisk, Counts};
 use anyhow::Result;
-use cm_commands::{Command, Prepared, Refusal, prepare};
+use cm_commands::{Command, PrepareFault, Prepared, Refusal, prepare};
 use cm_commit::Progress;
 use cm_disk::Disk;
 use cm_file_disk::FileDisk;
@@ -30,7 +30,7 @@ pub fn prepare_all(alloc: Global, classes: &[&[u8]]) -> Result<Vec<Prepared>, Al
     for class in classes {
         match prepare(alloc, class) {
             Ok(class) => all.push(class)?,
-            Err(Refusal::NoMemory) => return Err(AllocError),
+            Err(PrepareFault::NoMemory) => return Err(AllocError),
             Err(_) => {}
         }
     }

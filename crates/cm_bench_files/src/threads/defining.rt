@@ -36,7 +36,7 @@ fn class_of(alloc: Global, sample: &Sample<'_>, turn: Turn) -> Result<Prepared, 
     if turn.is_prepared {
         Ok(sample.class.share()?)
     } else {
-        prepare(alloc, sample.bytes)
+        Ok(prepare(alloc, sample.bytes)?)
     }
 }
 

@@ -1,7 +1,7 @@
 //! What threads work on: classes, and loaders to define them in.
 
 use anyhow::Result;
-use cm_commands::{Prepared, Refusal, prepare};
+use cm_commands::{PrepareFault, Prepared, prepare};
 use cm_stream::classes_in;
 use std::alloc::{AllocError, Global};
 use std::sync::atomic::{AtomicU64, Ordering};
@@ -31,7 +31,7 @@ fn sample_of<'a>(alloc: Global, bytes: &'a [u8]) -> Result<Option<Sample<'a>>, A
             let name = class.class_name(alloc)?;
             Ok(Some(Sample { bytes, name, class }))
         }
-        Err(Refusal::NoMemory) => Err(AllocError),
+        Err(PrepareFault::NoMemory) => Err(AllocError),
         Err(_) => Ok(None),
     }
 }

@@ -17,11 +17,11 @@ returns-in-Err-clause-machine g c =
     let f = g.D.Disk.view.failures s.committer.disk in
     let sizes = s.committer.sizes in
     let loader = c.args.loader.now in
-    let refusal = c.in-Err.refusal in
+    let refusal = c.from.result in
     λ digits decoded k matches ready.
     stays k f
     (replies_same sizes (Some (AsksDefine loader digits)) k f (refusal_reply refusal)
     c.refused.result ready c.refused.ensures
     (answers_fault sizes loader digits c.args.bytes.now refusal (served k f) decoded
-    c.in-Err.ensures.refused))
+    (c.in-Err.fault, c.in-Err.ensures.refused, c.from.ensures)))
     (still g.D.Disk.view k s matches)
