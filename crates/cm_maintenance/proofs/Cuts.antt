@@ -28,7 +28,7 @@ use Rattle.cm_verdict.specs.declared.fault.OpenFault.{OpenFault}
 use Rattle.cm_verdict.specs.declared.fault.OpenFault.TheVariants as open_fault
 use Rattle.cm_recover.specs.Opened.{Opens}
 use Rattle.cm_verdict.specs.Standing.{FollowsVerdict}
-use Rattle.cm_maintenance.specs.declared.fault.MaintenanceFault.{MaintenanceFault}
+use Rattle.cm_lines.specs.declared.fault.LineFault.{LineFault}
 use Rattle.cm_maintenance.specs.declared.status.Status.{Status}
 use Rattle.cm_maintenance.specs.declared.status.Status.TheVariants as status
 use Rattle.cm_maintenance.specs.Reporting.{Writes, told, status_of}
@@ -211,7 +211,7 @@ of_ok (Err f) P x e p = absurd (cc)
 
 -- the status is done only if the number of roots is returned
 pub done_roots : (held holds : Option (List ℕ)) (roots : Result ℕ OpenFault)
-    (r : Result Status MaintenanceFault)
+    (r : Result Status LineFault)
     → Writes held holds (told roots_line roots) (status_of roots) r
     → r ≡ Ok status.Done → (n : ℕ) × (roots ≡ Ok n)
 done_roots held holds (Ok n) r written e = (n, refl)

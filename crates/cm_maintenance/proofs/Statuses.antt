@@ -3,7 +3,7 @@
 use Rattle.std.proofs.Common.{◌≡◌, ◌∙◌, ℕ, List, Option, Result, Ok, Err, sym}
 use Rattle.cm_verdict.specs.declared.fault.OpenFault.{OpenFault}
 use Rattle.cm_verdict.specs.declared.fault.OpenFault.TheVariants as open_fault
-use Rattle.cm_maintenance.specs.declared.fault.MaintenanceFault.{MaintenanceFault}
+use Rattle.cm_lines.specs.declared.fault.LineFault.{LineFault}
 use Rattle.cm_maintenance.specs.declared.status.Status.{Status}
 use Rattle.cm_maintenance.specs.declared.status.Status.TheVariants.{Done}
 use Rattle.cm_maintenance.specs.Reporting.{Writes, fault_status}
@@ -15,7 +15,7 @@ not_done open_fault.Device e = cc
 not_done open_fault.NoMemory e = cc
 
 pub never_done : (held holds : Option (List ℕ)) (lines : List ℕ) (f : OpenFault)
-    (r : Result Status MaintenanceFault) → Writes held holds lines (fault_status f) r
+    (r : Result Status LineFault) → Writes held holds lines (fault_status f) r
     → r ≡ Ok Done → ⊥
 never_done held holds lines f (Ok given) written e =
     let done : given ≡ Done = cc in not_done f (sym written.0 ∙ done)

@@ -11,9 +11,9 @@ use Rattle.cm_verdict.specs.Standing.{FollowsVerdict}
 use Rattle.cm_maintenance.specs.Report.{Reports}
 use Rattle.cm_maintenance.specs.declared.listing.ListedClass.{ListedClass}
 use Rattle.cm_maintenance.specs.Listing.{listing}
+use Rattle.cm_lines.specs.declared.fault.LineFault.{LineFault}
+use Rattle.cm_lines.specs.declared.fault.LineFault.TheVariants as fault
 use Rattle.cm_lines.specs.Streams.{WritesPart}
-use Rattle.cm_maintenance.specs.declared.fault.MaintenanceFault.{MaintenanceFault}
-use Rattle.cm_maintenance.specs.declared.fault.MaintenanceFault.TheVariants as fault
 use Rattle.cm_maintenance.specs.declared.fault.NotReported.{NotReported}
 use Rattle.cm_maintenance.specs.declared.status.Status.{Status}
 use Rattle.cm_maintenance.specs.declared.status.Status.TheVariants as status
@@ -23,7 +23,7 @@ use Rattle.cm_maintenance.specs.Texts.{report_line, list_lines, fault_line}
 
 -- the status, or why there is none
 abbrev pub status_in : {D : Type 0} → Result (Status × D) (NotReported D)
-    → Result Status MaintenanceFault
+    → Result Status LineFault
 status_in (Ok given) = Ok given.0
 status_in (Err not_reported) = Err not_reported.fault
 
@@ -52,16 +52,17 @@ status_of (Err f) = fault_status f
 -- These lines are written, and nothing else, and the status is returned. If the writer failed, a
 -- beginning of them is written; if an allocation failed, nothing.
 abbrev pub Writes : Option (List ℕ) → Option (List ℕ) → List ℕ → Status
-    → Result Status MaintenanceFault → Type 0
+    → Result Status LineFault → Type 0
 Writes held holds lines status (Ok given) = (given ≡ status) × Appends held holds lines
 Writes held holds lines status (Err fault.Output) = WritesPart held holds lines
 Writes held holds lines status (Err fault.NoMemory) = holds ≡ held
+Writes held holds lines status (Err fault.Input) = ⊥
 
 -- For a file with these contents the result is the verdict, or that the device or an allocation
 -- failed: the device only if it did. The lines and the status are those of that result.
 pub record ReportsAnswer {A : Type 0} (Alike : A → Standing → Type 0) (lines : A → List ℕ)
     (contents : List ℕ) (Failed : Type 0) (held holds : Option (List ℕ))
-    (result : Result Status MaintenanceFault) : Type 0 where
+    (result : Result Status LineFault) : Type 0 where
   pub answer : Result A OpenFault
   pub answers : FollowsVerdict Alike answer (verdict contents)
   pub device : answer ≡ Err open_fault.Device → Failed
@@ -70,7 +71,7 @@ pub record ReportsAnswer {A : Type 0} (Alike : A → Standing → Type 0) (lines
 -- ---- checking
 
 abbrev pub ChecksTo : List ℕ → Type 0 → Option (List ℕ) → Option (List ℕ)
-    → Result Status MaintenanceFault
+    → Result Status LineFault
     → Type 0
 ChecksTo contents Failed held holds result =
     ReportsAnswer (Reports contents) report_line contents Failed held holds result
@@ -85,7 +86,7 @@ pub record Lists (contents : List ℕ) (loaders : List (List ℕ × List ListedC
   pub listed : loaders ≡ listing (rows_with lay s.rows)
 
 abbrev pub ListsTo : List ℕ → Type 0 → Option (List ℕ) → Option (List ℕ)
-    → Result Status MaintenanceFault
+    → Result Status LineFault
     → Type 0
 ListsTo contents Failed held holds result =
     ReportsAnswer (Lists contents) list_lines contents Failed held holds result

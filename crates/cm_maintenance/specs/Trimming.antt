@@ -10,7 +10,7 @@ use Rattle.cm_verdict.specs.Verdict.{Standing, state_in, arenas_in, verdict}
 use Rattle.cm_commit.specs.GroupPlans.{whole_roots}
 use Rattle.cm_commit.specs.States.{CommitterState, NoGroup}
 use Rattle.cm_commit.specs.Trims.{roots_of_rows}
-use Rattle.cm_maintenance.specs.declared.fault.MaintenanceFault.{MaintenanceFault}
+use Rattle.cm_lines.specs.declared.fault.LineFault.{LineFault}
 use Rattle.cm_maintenance.specs.declared.status.Status.{Status}
 use Rattle.cm_maintenance.specs.Reporting.{ReportsAnswer}
 use Rattle.cm_maintenance.specs.Texts.{roots_line}
@@ -39,7 +39,7 @@ pub record Uses (contents : List ℕ) (roots : ℕ) (s : Standing) : Type 0 wher
   pub roots_are : roots ≡ roots_of_rows (rows_in s)
 
 abbrev pub TrimsTo : List ℕ → Type 0 → Option (List ℕ) → Option (List ℕ)
-    → Result Status MaintenanceFault → Type 0
+    → Result Status LineFault → Type 0
 TrimsTo contents Failed held holds result =
     ReportsAnswer (Uses contents) roots_line contents Failed held holds result
 

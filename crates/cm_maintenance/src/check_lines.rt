@@ -6,12 +6,13 @@ ghost use Rattle.cm_maintenance.specs.Texts.{report_line};
 ghost use Rattle.cm_maintenance.specs.Reporting.{Writes, told, status_of, ChecksTo, status_in};
 ghost use Rattle.cm_maintenance.specs.Reporting.{disk_left};
 
-use crate::fault::{MaintenanceFault, NotReported};
+use crate::fault::NotReported;
 use crate::status::Status;
 use crate::telling::{tell, tell_fault, with_disk};
 use crate::texts::line_of_report;
 use crate::{Report, check};
 use cm_disk::Disk;
+use cm_lines::LineFault;
 use cm_verdict::OpenFault;
 use std::alloc::Global;
 use std::io::Write;
@@ -44,14 +45,14 @@ fn tell_answer<W: Write>(
     alloc: Global,
     writer: &mut W,
     answer: Result<Report, OpenFault>,
-) -> Result<Status, MaintenanceFault>
+) -> Result<Status, LineFault>
     ensures { Writes (W.contents writer.old) (W.contents writer.new)
         (told report_line answer) (status_of answer) result }
 {
     match answer {
         Ok(report) => match line_of_report(alloc, report) {
             Ok(line) => tell(writer, &line, Status::Done),
-            Err(_) => Err(MaintenanceFault::NoMemory),
+            Err(_) => Err(LineFault::NoMemory),
         },
         Err(fault) => tell_fault(alloc, writer, fault),
     }

@@ -17,7 +17,7 @@ mod trimming;
 
 pub use check_lines::check_to;
 pub use checking::check;
-pub use fault::{MaintenanceFault, NotReported};
+pub use fault::NotReported;
 pub use laws::listing_is_state;
 pub use list_lines::list_to;
 pub use listing::{ListedClass, ListedLoader, list, list_accepted};

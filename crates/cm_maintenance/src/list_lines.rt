@@ -7,13 +7,14 @@ ghost use Rattle.cm_maintenance.specs.Listing.{listing};
 ghost use Rattle.cm_maintenance.specs.Texts.{list_lines};
 ghost use Rattle.cm_maintenance.specs.Reporting.{Writes, ListsTo, status_in, disk_left};
 
-use crate::fault::{MaintenanceFault, NotReported};
+use crate::fault::NotReported;
 use crate::list_accepted;
 use crate::status::Status;
 use crate::telling::{tell, tell_fault, with_disk};
 use crate::texts::lines_of_list;
 use cm_disk::Disk;
 use cm_front::Front;
+use cm_lines::LineFault;
 use cm_recover::{NotOpened, open};
 use std::alloc::Global;
 use std::io::Write;
@@ -52,19 +53,15 @@ pub fn list_to<W: Write, D: Disk>(
     }
 }
 
-fn tell_list<W: Write>(
-    alloc: Global,
-    writer: &mut W,
-    front: &Front,
-) -> Result<Status, MaintenanceFault>
+fn tell_list<W: Write>(alloc: Global, writer: &mut W, front: &Front) -> Result<Status, LineFault>
     ensures { Writes (W.contents writer.old) (W.contents writer.new)
         (list_lines (listing front.now.rows)) Status.Done result }
 {
     let Ok(loaders) = list_accepted(alloc, front) else {
-        return Err(MaintenanceFault::NoMemory);
+        return Err(LineFault::NoMemory);
     };
     match lines_of_list(alloc, &loaders) {
         Ok(lines) => tell(writer, &lines, Status::Done),
-        Err(_) => Err(MaintenanceFault::NoMemory),
+        Err(_) => Err(LineFault::NoMemory),
     }
 }

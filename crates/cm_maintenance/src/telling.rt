@@ -4,10 +4,10 @@ ghost use Rattle.std.specs.Prelude.{◌≡◌, IfOk};
 ghost use Rattle.cm_maintenance.specs.Texts.{fault_line};
 ghost use Rattle.cm_maintenance.specs.Reporting.{Writes, fault_status, status_in, disk_left};
 
-use crate::fault::{MaintenanceFault, NotReported};
+use crate::fault::NotReported;
 use crate::status::Status;
 use crate::texts::line_of_fault;
-use cm_lines::write_line;
+use cm_lines::{LineFault, write_line};
 use cm_verdict::OpenFault;
 use std::alloc::Global;
 use std::io::Write;
@@ -17,13 +17,11 @@ pub(crate) fn tell<W: Write>(
     writer: &mut W,
     lines: &[u8],
     status: Status,
-) -> Result<Status, MaintenanceFault>
+) -> Result<Status, LineFault>
     ensures { Writes (W.contents writer.old) (W.contents writer.new) lines.now status result }
 {
-    match write_line(writer, lines) {
-        Ok(()) => Ok(status),
-        Err(_) => Err(MaintenanceFault::Output),
-    }
+    write_line(writer, lines)?;
+    Ok(status)
 }
 
 /// Writes why a file isn't opened, and returns the status, as [`crate::check_to`] does. Only the
@@ -32,7 +30,7 @@ pub fn tell_fault<W: Write>(
     alloc: Global,
     writer: &mut W,
     fault: OpenFault,
-) -> Result<Status, MaintenanceFault>
+) -> Result<Status, LineFault>
     ensures { Writes (W.contents writer.old) (W.contents writer.new) (fault_line fault)
         (fault_status fault) result }
 {
@@ -40,7 +38,7 @@ pub fn tell_fault<W: Write>(
         OpenFault::NotACache => tell(writer, b"not a cache\n", Status::Refused),
         OpenFault::Damaged { .. } => match line_of_fault(alloc, fault) {
             Ok(line) => tell(writer, &line, Status::Refused),
-            Err(_) => Err(MaintenanceFault::NoMemory),
+            Err(_) => Err(LineFault::NoMemory),
         },
         OpenFault::Device => tell(writer, b"device\n", Status::Failed),
         OpenFault::NoMemory => tell(writer, b"memory\n", Status::Failed),
@@ -49,7 +47,7 @@ pub fn tell_fault<W: Write>(
 
 /// The result of a report, with the disk.
 pub(crate) fn with_disk<D>(
-    status: Result<Status, MaintenanceFault>,
+    status: Result<Status, LineFault>,
     disk: D,
 ) -> Result<(Status, D), NotReported<D>>
     ensures status { status_in result ≡ status }

@@ -9,12 +9,13 @@ ghost use Rattle.cm_maintenance.specs.Reporting.{Writes, told, status_of, status
 ghost use Rattle.cm_recover.specs.Opened.{LeavesSame};
 ghost use Rattle.cm_maintenance.specs.Trimming.{TrimsTo, IsTrimmed};
 
-use crate::fault::{MaintenanceFault, NotReported};
+use crate::fault::NotReported;
 use crate::status::Status;
 use crate::telling::{tell, tell_fault, with_disk};
 use crate::texts::line_of_roots;
 use crate::trimming::trim_file;
 use cm_disk::Disk;
+use cm_lines::LineFault;
 use cm_recover::{NotOpened, open};
 use cm_verdict::OpenFault;
 use std::alloc::Global;
@@ -66,14 +67,14 @@ fn tell_roots<W: Write>(
     alloc: Global,
     writer: &mut W,
     roots: Result<u32, OpenFault>,
-) -> Result<Status, MaintenanceFault>
+) -> Result<Status, LineFault>
     ensures { Writes (W.contents writer.old) (W.contents writer.new)
         (told roots_line roots) (status_of roots) result }
 {
     match roots {
         Ok(roots) => match line_of_roots(alloc, roots) {
             Ok(line) => tell(writer, &line, Status::Done),
-            Err(_) => Err(MaintenanceFault::NoMemory),
+            Err(_) => Err(LineFault::NoMemory),
         },
         Err(fault) => tell_fault(alloc, writer, fault),
     }

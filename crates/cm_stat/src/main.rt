@@ -5,9 +5,10 @@ mod arguments;
 mod json;
 mod text;
 
-use crate::arguments::{Request, WordsFault, read_words};
+use crate::arguments::{Request, read_words};
 use cm_file_disk::{FileDisk, OpenError};
-use cm_maintenance::{MaintenanceFault, Status, tell_fault};
+use cm_lines::LineFault;
+use cm_maintenance::{Status, tell_fault};
 use cm_statistics::{Statistics, statistics};
 use cm_verdict::OpenFault;
 use std::alloc::{AllocError, Global};
@@ -45,7 +46,7 @@ fn report(
     match measured {
         Ok(found) => match spell(rt.alloc(), &found, json) {
             Ok(text) => print_all(rt, &text),
-            Err(_) => fail(rt, MaintenanceFault::NoMemory),
+            Err(_) => fail(rt, LineFault::NoMemory),
         },
         Err(fault) => say_fault(rt, fault),
     }
@@ -62,7 +63,7 @@ fn spell(alloc: Global, found: &Statistics, json: bool) -> Result<Vec<u8>, Alloc
 fn print_all(rt: &(impl Print + Eprint), text: &[u8]) -> Status {
     let mut writer = io::writer(rt);
     if writer.write_all(text).is_err() || writer.flush().is_err() {
-        return fail(rt, MaintenanceFault::Output);
+        return fail(rt, LineFault::Output);
     }
     Status::Done
 }

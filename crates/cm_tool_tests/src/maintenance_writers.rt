@@ -3,7 +3,8 @@
 use crate::line_writers::StuckWriter;
 use crate::maintenance_disks::{Verb, cache_after, tell, tell_to_end};
 use cm_disk::SimDisk;
-use cm_maintenance::{MaintenanceFault, NotReported, Status};
+use cm_lines::LineFault;
+use cm_maintenance::{NotReported, Status};
 use std::alloc::Global;
 use std::io::{self, ErrorKind, Write};
 use std::test::*;
@@ -48,7 +49,7 @@ fn narrow(alloc: Global, room: usize) -> NarrowWriter {
 /// Why a report wasn't written to its end, and the disk.
 fn tell_to_failing(
     told: Result<(Status, SimDisk), NotReported<SimDisk>>,
-) -> Result<(MaintenanceFault, SimDisk), Fail> {
+) -> Result<(LineFault, SimDisk), Fail> {
     match told {
         Ok(_) => Err("a fault".into()),
         Err(NotReported { fault, disk }) => Ok((fault, disk)),
@@ -66,7 +67,7 @@ fn is_cut(
     let mut writer = narrow(alloc, room);
     let (fault, disk) = tell_to_failing(tell(alloc, verb, &mut writer, disk))?;
     let is_beginning = Some(writer.bytes.as_slice()) == text.get(..room);
-    Ok((fault == MaintenanceFault::Output && is_beginning, disk))
+    Ok((fault == LineFault::Output && is_beginning, disk))
 }
 
 /// Whether this much room for a report and for a list cuts both short, and the disk.
@@ -134,7 +135,7 @@ fn a_fault_that_is_not_written_is_no_status(rt: HostRuntime) -> Result<(), Fail>
 }
 
 /// Why a check and a list of a disk aren't flushed.
-fn stuck_faults(alloc: Global, disk: SimDisk) -> Result<[MaintenanceFault; 2], Fail> {
+fn stuck_faults(alloc: Global, disk: SimDisk) -> Result<[LineFault; 2], Fail> {
     let (check, disk) = tell_to_failing(tell(alloc, Verb::Check, &mut StuckWriter, disk))?;
     let (list, _disk) = tell_to_failing(tell(alloc, Verb::List, &mut StuckWriter, disk))?;
     Ok([check, list])
@@ -144,13 +145,13 @@ fn stuck_faults(alloc: Global, disk: SimDisk) -> Result<[MaintenanceFault; 2], F
 fn lines_that_are_not_passed_on_are_a_fault(rt: HostRuntime) -> Result<(), Fail> {
     let disk = cache_after(rt.alloc(), b"loader app\n")?;
     let faults = stuck_faults(rt.alloc(), disk)?;
-    assert_eq!(rt; faults, [MaintenanceFault::Output; 2]);
+    assert_eq!(rt; faults, [LineFault::Output; 2]);
     Ok(())
 }
 
-const TEXTS: [(MaintenanceFault, &str); 2] = [
-    (MaintenanceFault::Output, "the output failed"),
-    (MaintenanceFault::NoMemory, "out of memory"),
+const TEXTS: [(LineFault, &str); 2] = [
+    (LineFault::Output, "the output failed"),
+    (LineFault::NoMemory, "out of memory"),
 ];
 
 #[test]

@@ -5,7 +5,7 @@ use Rattle.cm_layout.specs.Rows.{rows_with}
 use Rattle.cm_front.specs.Front.{FrontState}
 use Rattle.cm_verdict.specs.declared.fault.OpenFault.TheVariants as open_fault
 use Rattle.cm_maintenance.specs.Listing.{listing}
-use Rattle.cm_maintenance.specs.declared.fault.MaintenanceFault.{MaintenanceFault}
+use Rattle.cm_lines.specs.declared.fault.LineFault.{LineFault}
 use Rattle.cm_maintenance.specs.declared.status.Status.{Status}
 use Rattle.cm_maintenance.specs.declared.status.Status.TheVariants.{Done}
 use Rattle.cm_maintenance.specs.Texts.{list_lines, fault_line}
@@ -31,7 +31,7 @@ returns-in-Ok-clause-told g c =
         alike = record { stands = opens.stands; listed = refl };
       };
       device = λ e. absurd (cc);
-      written = subst (λ (r : Result Status MaintenanceFault). Writes held holds
+      written = subst (λ (r : Result Status LineFault). Writes held holds
           (list_lines (listing rows)) Done r)
           (sym c.with_disk.ensures.status)
           (subst (λ (l : List (Row (List ℕ))).
@@ -52,7 +52,7 @@ returns-in-Err-clause-told g c =
           let device : fault ≡ open_fault.Device = cc in
           subst (λ d. failures c.args.disk < failures d) (sym c.with_disk-in-Err.ensures.disk)
           (c.in-Err.ensures.run.cause device);
-      written = subst (λ (r : Result Status MaintenanceFault).
+      written = subst (λ (r : Result Status LineFault).
           Writes held holds (fault_line fault) (fault_status fault) r)
           (sym c.with_disk-in-Err.ensures.status) c.tell_fault-status.ensures;
     }

@@ -7,7 +7,7 @@ use Rattle.cm_guards.proofs.{leaves_more, leaves_on}
 use Rattle.cm_commit.specs.States.{ShowsCommitted}
 use Rattle.cm_commit.specs.Trims.{roots_of_rows}
 use Rattle.cm_verdict.specs.declared.fault.OpenFault.TheVariants as open_fault
-use Rattle.cm_maintenance.specs.declared.fault.MaintenanceFault.{MaintenanceFault}
+use Rattle.cm_lines.specs.declared.fault.LineFault.{LineFault}
 use Rattle.cm_maintenance.specs.declared.status.Status.{Status}
 use Rattle.cm_maintenance.specs.Reporting.{Writes, told, status_of, fault_status}
 use Rattle.cm_maintenance.specs.Texts.{roots_line, fault_line}
@@ -36,7 +36,7 @@ returns-in-Ok-clause-told g c =
           let later = c.in-Ok.ensures.run.later in
           let rose = (roots.ensures.cause (ap is_err e)).1 in
           subst (λ d. failures c.args.disk < failures d) (sym left_is) (omega (arith, later, rose));
-      written = subst (λ (r : Result Status MaintenanceFault).
+      written = subst (λ (r : Result Status LineFault).
           Writes held holds (told roots_line roots.result) (status_of roots.result) r)
           (sym c.with_disk.ensures.status) c.tell_roots-status.ensures;
     }
@@ -129,7 +129,7 @@ returns-in-Err-clause-told g c =
           let device : fault ≡ open_fault.Device = cc in
           subst (λ d. failures c.args.disk < failures d) (sym c.with_disk-in-Err.ensures.disk)
           (c.in-Err.ensures.run.cause device);
-      written = subst (λ (r : Result Status MaintenanceFault).
+      written = subst (λ (r : Result Status LineFault).
           Writes held holds (fault_line fault) (fault_status fault) r)
           (sym c.with_disk-in-Err.ensures.status) c.tell_fault-status.ensures;
     }
