@@ -2,6 +2,7 @@
 use Rattle.std.proofs.Common.{◌≡◌, [], ◌∷◌, refl}
 use Rattle.std.specs.Prelude.{codes}
 use Rattle.std.specs.Fmt.{digits}
+use Rattle.hex.specs.Hex.{encode_with}
 use Rattle.cm_class.specs.declared.constant.Constant.TheVariants as constant
 use Rattle.cm_class.specs.declared.constant.Slot.TheVariants.{Usable}
 use Rattle.cm_class.specs.declared.class_file.ClassFile.{ClassFile}
@@ -42,13 +43,13 @@ a_defined = refl
 
 a_found : (class_reply (codes "A") class_a 16).text
     ≡ codes "class A flags 0021 super java/lang/Object words 16"
-unfolding digits
+unfolding digits encode_with
 a_found = refl
 
 object_found : (class_reply (codes "java/lang/Object")
     (record class_a { super_class = 0; flags = 0xB7AF }) 8209).text
     ≡ codes "class java/lang/Object flags b7af super - words 8209"
-unfolding digits
+unfolding digits encode_with
 object_found = refl
 
 escaped_name : (defined_reply 2 (0xC3 ∷ 0xA9 ∷ [])).text ≡ codes "ok 2 %C3%A9"

@@ -1,7 +1,8 @@
 -- The texts of replies, without their newlines, and what each says of its command.
-use Rattle.std.specs.Prelude.{ℕ, ◌+◌, ◌-◌, ◌/◌, ◌%◌, nat_lt, if◌then◌else◌, List, [], ◌∷◌, ◌++◌}
+use Rattle.std.specs.Prelude.{ℕ, ◌/◌, ◌%◌, List, [], ◌∷◌, ◌++◌}
 use Rattle.std.specs.Prelude.{codes, Option, Some, None}
 use Rattle.std.specs.Fmt.{decimal}
+use Rattle.hex.specs.Hex.{encode_lower}
 use Rattle.cm_class.specs.declared.class_file.ClassFile.{ClassFile}
 use Rattle.cm_record.specs.Names.{super_name_of}
 use Rattle.cm_commands.specs.declared.refusal.Refusal.{Refusal}
@@ -29,14 +30,9 @@ defined_reply n name =
 abbrev pub none_reply : ReplyText
 none_reply = record { kind = kind.Done; text = codes "none" }
 
-abbrev pub lower_digit : ℕ → ℕ
-lower_digit v = if nat_lt v 10 then 48 + v else 97 + (v - 10)
-
 -- flags, in four hexadecimal digits
 abbrev pub flags_text : ℕ → List ℕ
-flags_text flags =
-    lower_digit (flags / 4096) ∷ lower_digit (flags / 256 % 16) ∷ lower_digit (flags / 16 % 16)
-    ∷ lower_digit (flags % 16) ∷ []
+flags_text flags = encode_lower (flags / 256 ∷ flags % 256 ∷ [])
 
 abbrev pub super_text : Option (List ℕ) → List ℕ
 super_text None = codes "-"

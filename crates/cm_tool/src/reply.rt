@@ -8,9 +8,9 @@ ghost use Rattle.cm_tool.specs.Texts.{refused_reply, unsure_reply, refusal_reply
 ghost use Rattle.cm_tool.specs.Texts.{bad_line_reply};
 ghost use Rattle.cm_tool.specs.Replies.{IsReply};
 
-use crate::texts::{push_flags, push_number, text, word_with_number};
+use crate::texts::{push_flags, text, word_with_number};
 use cm_commands::Refusal;
-use cm_lines::escape_into;
+use cm_lines::{escape_into, push_number};
 use cm_record::Record;
 use std::alloc::{AllocError, Global};
 
@@ -59,14 +59,14 @@ impl Reply {
         let mut line = text(alloc, b"class ")?;
         escape_into(&mut line, name)?;
         line.extend_from_slice(b" flags ")?;
-        push_flags(&mut line, class.flags())?;
+        push_flags(alloc, &mut line, class.flags())?;
         line.extend_from_slice(b" super ")?;
         match class.super_name(alloc)? {
             Some(super_name) => escape_into(&mut line, &super_name)?,
             None => line.extend_from_slice(b"-")?,
         }
         line.extend_from_slice(b" words ")?;
-        push_number(alloc, &mut line, u64::from(class.words()))?;
+        push_number(&mut line, u64::from(class.words()))?;
         end(ReplyKind::Done, line)
     }
 
