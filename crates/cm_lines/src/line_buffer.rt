@@ -1,6 +1,6 @@
 //! The line of a script that is being read.
 
-ghost use Rattle.std.specs.Prelude.{◌≡◌, ◌≤◌, ℕ, nat_lt, List, [], length, OnOk, vec_len};
+ghost use Rattle.std.specs.Prelude.{◌≡◌, ◌≤◌, ℕ, nat_lt, true, List, [], length, OnOk, vec_len};
 ghost use Rattle.cm_lines.specs.Lines.{line_limit};
 
 use crate::line::{Line, parse};
@@ -43,6 +43,14 @@ impl LineBuffer {
         } else {
             parse(&self.bytes)
         }
+    }
+
+    /// Whether both hold the same line, with all of its bytes.
+    pub fn is_same_line(&self, other: &LineBuffer) -> bool
+        ensures { result ≡ true
+            → (line : List ℕ) → HoldsLine line self.now → HoldsLine line other.now }
+    {
+        !self.is_long && !other.is_long && self.bytes == other.bytes
     }
 
     pub(crate) fn clear(&mut self)

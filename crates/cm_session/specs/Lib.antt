@@ -4,3 +4,4 @@ pub mod Moves
 pub mod Storing
 pub mod Laws
 pub mod Committing
+pub mod Opening

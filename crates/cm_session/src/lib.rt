@@ -10,6 +10,6 @@ mod session;
 mod storing;
 
 pub use laws::held_cache_begins_machine;
-pub use opening::open;
+pub use opening::{open, open_in_threads};
 pub use session::{Sealed, Session};
 pub use storing::NotStored;
