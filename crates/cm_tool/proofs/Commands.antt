@@ -1,11 +1,10 @@
 -- From a session's result for a command to the reply.
--- For `answer_number`, `answer`, `define` and others.
-use Rattle.std.proofs.Common.{◌≡◌, ◌≤◌, ◌⊎◌, ℕ, Bool, true, false, List, length, Option, Some, None}
+-- For `change`, `answer`, `define` and others.
+use Rattle.std.proofs.Common.{◌≡◌, ◌≤◌, ◌⊎◌, ℕ, true, false, List, length, Option, Some, None}
 use Rattle.std.proofs.Common.{Result, Ok, Err, IfOk, OnOk, inl, inr, refl, sym, ap, subst, ◌∙◌}
 use Rattle.std.proofs.Common.{take}
 use Rattle.hex.specs.Hex.{decode_of}
 use Rattle.hex.specs.declared.error.FromHexError.{FromHexError}
-use Rattle.hex.specs.declared.error.FromHexError.TheVariants.{OutOfMemory}
 use Rattle.cm_disk.specs.Disk.{View}
 use Rattle.cm_class.specs.declared.class_file.ClassFile.{ClassFile}
 use Rattle.cm_class.specs.Spelling.{HasSpelling}
@@ -29,12 +28,14 @@ use Rattle.cm_session.specs.Storing.{Storing, Stores, FailsOnly, MakesNoCall}
 use Rattle.cm_lines.specs.Escapes.{unescaped}
 use Rattle.cm_lines.specs.Lines.{Asked, AsksLoader, AsksUnload, AsksTighten, AsksDefine, AsksFind}
 use Rattle.cm_lines.specs.Lines.{AsksUnloadAll}
+use Rattle.cm_tool.specs.declared.ahead.LineClass.TheVariants as line_class
 use Rattle.cm_tool.specs.declared.reply.Reply.{Reply}
 use Rattle.cm_tool.specs.Texts.{ReplyText, number_reply, defined_reply, none_reply, class_reply}
 use Rattle.cm_tool.specs.Texts.{refusal_reply, unsure_reply, bad_line_reply}
 use Rattle.cm_tool.specs.Replies.{IsReply}
 use Rattle.cm_tool.specs.Answers.{Served, served, AnswersCommand, AnswersAsked, AnswersDefine}
 use Rattle.cm_tool.specs.Answers.{AnswersFind}
+use Rattle.cm_tool.specs.Ahead.{IsClassOf}
 use Rattle.cm_tool.specs.Serving.{IsReady, ReachesServed, MayProgress, RestsAfter, IsAskedBy}
 use Rattle.cm_tool.specs.Serving.{Replies, ReportsStored}
 use Rattle.cm_tool.proofs.Moments.{stored_goes_on}
@@ -164,18 +165,22 @@ answers_fault sizes loader digits bytes refusal old decoded refused =
     subst (λ r. AnswersDefine sizes loader r old (refusal_reply refusal) old) (sym decoded)
     (inl (record { refusal = refusal; refused = refused; reply = refl; same = refl }))
 
--- digits that can't be read, though no allocation failed
-pub not_memory : (digits : List ℕ) (e : FromHexError) (is : Bool) → (e ≡ OutOfMemory → is ≡ true)
-    → is ≡ false → (e ≡ OutOfMemory) ⊎ (decode_of digits ≡ Err e) → decode_of digits ≡ Err e
-not_memory digits e is whenever never (inl memory) = let yes = whenever memory in absurd (cc)
-not_memory digits e is whenever never (inr decoded) = decoded
-
 -- digits that stand for no bytes
 pub answers_bad_digits : (sizes : Sizes) (loader digits : List ℕ) (e : FromHexError) (old : Served)
     → decode_of digits ≡ Err e
     → AnswersAsked sizes (Some (AsksDefine loader digits)) old bad_line_reply old
 answers_bad_digits sizes loader digits e old decoded =
     subst (λ r. AnswersDefine sizes loader r old bad_line_reply old) (sym decoded) (refl, refl)
+
+-- digits that stand for no class which can be defined
+pub answers_refused : (sizes : Sizes) (loader digits : List ℕ) (refusal : Refusal) (old : Served)
+    → IsClassOf (decode_of digits) (line_class.Refused refusal)
+    → AnswersAsked sizes (Some (AsksDefine loader digits)) old (refusal_reply refusal) old
+answers_refused sizes loader digits refusal old (inl p) =
+    answers_fault sizes loader digits p.0 refusal old p.1 p.2
+answers_refused sizes loader digits refusal old (inr p) =
+    subst (λ (r : Refusal). AnswersAsked sizes (Some (AsksDefine loader digits)) old
+    (refusal_reply r) old) (sym p.2) (answers_bad_digits sizes loader digits p.0 old p.1)
 
 -- ---- a command that is stored
 

@@ -2,5 +2,5 @@ mod Commands
 mod Moments
 mod Running
 mod WorkedExamples
-mod Calls
-mod InThreads
+mod Asking
+mod Opened

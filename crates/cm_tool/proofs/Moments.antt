@@ -1,10 +1,10 @@
 -- What a crash leaves in the course of a line.
--- For `answer`, `define`, `define_bytes` and others.
+-- For `answer`, `define`, `change` and others.
 use Rattle.std.proofs.Common.{◌≡◌, ◌≤◌, ◌⊎◌, ℕ, Bool, true, List, Result, Ok, Err, inl, inr, refl}
 use Rattle.std.proofs.Common.{sym, ◌∙◌, ap, subst, arith}
 use Rattle.cm_class.specs.declared.class_file.ClassFile.{ClassFile}
 use Rattle.cm_pool.specs.Geometry.{Sizes}
-use Rattle.cm_disk.specs.Disk.{OnlyNow, View, Unsynced, IsImage}
+use Rattle.cm_disk.specs.Disk.{OnlyNow, View}
 use Rattle.cm_guards.specs.Guards.{EachImage}
 use Rattle.cm_guards.specs.Calls.{LeavesOnly}
 use Rattle.cm_guards.proofs.{leaves_none, leaves_more}

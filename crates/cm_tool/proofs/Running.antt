@@ -4,11 +4,11 @@ use Rattle.std.proofs.Common.{◌≡◌, ◌||◌, ℕ, Bool, true, false, List,
 use Rattle.std.proofs.Common.{Some, None, Result, Ok, Err, inl, inr, refl, sym, ap, subst, ◌∙◌}
 use Rattle.std.proofs.Common.{append_assoc, append-nil, arith}
 use Rattle.std.specs.List.{list_any}
-use Rattle.std.specs.Option.{IfSome, option_map}
+use Rattle.std.specs.Option.{IfSome}
 use Rattle.std.proofs.lemmas.List.Folds.{list_any-append}
 use Rattle.std.proofs.lemmas.Grind.{flat_map-append}
 use Rattle.std.proofs.KnownBytes.{Appends-nil, Appends-trans, Appends-kept, Keeps-refl}
-use Rattle.std.specs.Io.KnownBytes.{Appends}
+use Rattle.std.specs.Io.KnownBytes.{Appends, Keeps}
 use Rattle.cm_disk.specs.Disk.{View}
 use Rattle.cm_pool.specs.Geometry.{Sizes}
 use Rattle.cm_guards.specs.Calls.{LeavesOnly}
@@ -16,23 +16,20 @@ use Rattle.cm_commands.specs.Machine.{Base, Machine, machine_from}
 use Rattle.cm_session.specs.declared.session.Session.{Session}
 use Rattle.cm_session.specs.Moves.{SessionMatches}
 use Rattle.cm_lines.specs.declared.fault.LineFault.{LineFault}
-use Rattle.cm_lines.specs.declared.fault.LineFault.TheVariants as line_fault
-use Rattle.cm_lines.specs.declared.line.Line.{Line}
+use Rattle.cm_lines.specs.declared.fault.LineFault.TheVariants as fault
 use Rattle.cm_lines.specs.declared.line_buffer.LineBuffer.{LineBuffer}
-use Rattle.cm_lines.specs.Lines.{lines_of, asked_by, seen}
-use Rattle.cm_lines.specs.Streams.{io, TakesLines, HasNoLine, ScriptBegins, HoldsLine, ReadsLine}
+use Rattle.cm_lines.specs.Lines.{lines_of, asked_by}
+use Rattle.cm_lines.specs.Streams.{io, TakesLines, HasNoLine, ScriptBegins, ReadsLine}
 use Rattle.cm_lines.specs.Streams.{WritesPart}
 use Rattle.cm_tool.specs.declared.reply.ReplyKind.{ReplyKind}
 use Rattle.cm_tool.specs.declared.reply.Reply.{Reply}
 use Rattle.cm_tool.specs.Texts.{ReplyText}
 use Rattle.cm_tool.specs.Replies.{is_refused, is_unsure, reply_line, reply_lines}
 use Rattle.cm_tool.specs.declared.script.Outcome.{Outcome}
-use Rattle.cm_tool.specs.declared.script.ToolFault.{ToolFault}
-use Rattle.cm_tool.specs.declared.script.ToolFault.TheVariants as fault
 use Rattle.cm_tool.specs.Answers.{Served, served, Pause, pause}
 use Rattle.cm_tool.specs.Answers.{StandsBetween, RunsLine, AnswersEach, EndsUnsure}
 use Rattle.cm_tool.specs.Serving.{IsReady, ReachesServed, Progresses, Replies}
-use Rattle.cm_tool.specs.Runs.{fault_of, Turned, HasEnded, BreaksIn, BreaksBefore}
+use Rattle.cm_tool.specs.Runs.{Turned, HasEnded, BreaksIn, BreaksBefore}
 use Rattle.cm_tool.specs.Runs.{RunBreaks, TakesTurn, IsAnswered, EndsEarly, EndsBefore, EndsIn}
 use Rattle.cm_tool.specs.Runs.{Ends, IsRun}
 
@@ -298,7 +295,7 @@ module _ {D : Type 0} (Leaves : D → D → (List ℕ → Type 0) → Type 0) (s
         written = Appends-trans h k m (reply_lines so.replies) w.part so.written w.written;
       }
 
-  broken : (e : ToolFault) → RunBreaks sizes e (io b k m) t.served u.served
+  broken : (e : LineFault) → RunBreaks sizes e (io b k m) t.served u.served
       → Ends sizes e (io a h m) so.lines so.replies t.served u.served
   unfolding late
   broken fault.Input breaks = early breaks
@@ -306,7 +303,7 @@ module _ {D : Type 0} (Leaves : D → D → (List ℕ → Type 0) → Type 0) (s
   broken fault.NoMemory (inl breaks) = inl (early breaks)
   broken fault.NoMemory (inr breaks) = inr (late breaks.0, breaks.1)
 
-  run_broken : (e : ToolFault) → RunBreaks sizes e (io b k m) t.served u.served
+  run_broken : (e : LineFault) → RunBreaks sizes e (io b k m) t.served u.served
       → Leaves t.disk u.disk (StandsBetween sizes t.served.machine u.served.machine)
       → EndsEarly Leaves sizes (io a h m) e s u
   run_broken e breaks moments =
@@ -355,7 +352,7 @@ module _ {D : Type 0} (Leaves : D → D → (List ℕ → Type 0) → Type 0) (s
     (Matching Next : Machine → Type 0)
     (so : ReachesServed (λ s. SoFar Leaves sizes a b h k o first (pause s d)) f Matching) where
   -- the result of a line, from whichever machine
-  abbrev LedBy : Result (Option ReplyKind) ToolFault → Type 0
+  abbrev LedBy : Result (Option ReplyKind) LineFault → Type 0
   LedBy result =
       (j : Machine) → Matching j → IsReady j
       → ReachesServed (λ s. TakesTurn sizes c (io b k m) result (pause (served j f) d) (pause s e))
@@ -397,7 +394,7 @@ module _ {D : Type 0} (Leaves : D → D → (List ℕ → Type 0) → Type 0) (s
         matches = t.matches.matches;
       }
 
-  pub lines_broken : (x : ToolFault) → LedBy (Err x)
+  pub lines_broken : (x : LineFault) → LedBy (Err x)
       → ReachesServed (λ s. IsRun Leaves sizes (io a h m) (Err x) first (pause s e)) now Next
   lines_broken x turn =
       let t = turn so.next so.matches so.does.ready in
@@ -438,20 +435,10 @@ module _ {D : Type 0} (Leaves : D → D → (List ℕ → Type 0) → Type 0) (s
 
 -- the reader failed, or an allocation did
 pub unread : (sizes : Sizes) (a h : Option (List ℕ)) (s : Served) (e : LineFault)
-    → (e ≡ line_fault.Output → ⊥) → RunBreaks sizes (fault_of e) (io a h h) s s
-unread sizes a h s line_fault.Input never = record { same = refl; nothing = Keeps-refl h }
-unread sizes a h s line_fault.Output never = absurd (never refl)
-unread sizes a h s line_fault.NoMemory never = inl (record { same = refl; nothing = Keeps-refl h })
-
--- the reply to the request is the reply to the line
-asked_line : {E : Type 0} (sizes : Sizes) (a b : Option (List ℕ)) (buffer : LineBuffer)
-    (request : Option Line) (result : Result Reply E) (old new : Served)
-    (read : ReadsLine a b buffer true)
-    → ((line : List ℕ) → HoldsLine line buffer → option_map seen request ≡ asked_by line)
-    → Replies sizes (option_map seen request) result old new
-    → Replies sizes (asked_by (read.0)) result old new
-asked_line sizes a b buffer request result old new read says replies =
-    subst (λ q. Replies sizes q result old new) (says read.0 read.2) replies
+    → (e ≡ fault.Output → ⊥) → RunBreaks sizes e (io a h h) s s
+unread sizes a h s fault.Input never = record { same = refl; nothing = Keeps-refl h }
+unread sizes a h s fault.Output never = absurd (never refl)
+unread sizes a h s fault.NoMemory never = inl (record { same = refl; nothing = Keeps-refl h })
 
 -- the allocation for the reply failed
 unmade : {E : Type 0} (sizes : Sizes) (a b h : Option (List ℕ)) (s u : Served) (line : List ℕ)
@@ -475,62 +462,71 @@ unmade sizes a b h s u line e taken (inr answered) =
     } in
     inr (cut, refl)
 
+-- what is read once the reader was looked at is what it had left before
+pub looked_first : (a b c : Option (List ℕ)) (buffer : LineBuffer) (some : Bool) → Keeps a b
+    → ReadsLine b c buffer some → ReadsLine a c buffer some
+looked_first None b c buffer true keeps read = (read.0, tt, read.2)
+looked_first None b c buffer false keeps read = tt
+looked_first (Some x) None c buffer some keeps read = absurd keeps
+looked_first (Some x) (Some y) c buffer some keeps read =
+    subst (λ (z : List ℕ). ReadsLine (Some z) c buffer some) keeps read
+
 module _ {D : Type 0} (sizes : Sizes) (a b h : Option (List ℕ)) (old : Served) (now : ℕ)
-    (d e : D) (Matching : Machine → Type 0) (buffer : LineBuffer) (request : Option Line)
-    (read : ReadsLine a b buffer true)
-    (says : (line : List ℕ) → HoldsLine line buffer → option_map seen request ≡ asked_by line) where
-  pub line_unmade : {E : Type 0} (x : E)
-      → ReachesServed (Replies {E = E} sizes (option_map seen request) (Err x) old) now Matching
-      → ReachesServed (λ s. TakesTurn sizes b (io a h h) (Err fault.NoMemory) (pause old d)
-      (pause s e)) now
-      Matching
-  line_unmade x led = record {
-    next = led.next;
-    does = unmade sizes a b h old (served led.next now) read.0 x read.1
-        (asked_line sizes a b buffer request (Err x) old (served led.next now) read says led.does);
-    matches = led.matches;
-  }
+    (d e : D) (Matching : Machine → Type 0) (line : List ℕ) (taken : TakesLines a b (line ∷ []))
+  where
+    -- what is replied to the line
+    abbrev pub LineReplies : {E : Type 0} → Result Reply E → Type 0
+    LineReplies result =
+        ReachesServed (Replies sizes (asked_by line) result old) now Matching
 
-  pub line_answered : (E : Type 0) (m : Option (List ℕ)) (reply : Reply)
-      → ReachesServed (Replies {E = E} sizes (option_map seen request) (Ok reply) old) now Matching
-      → Appends h m reply.line.items
-      → ReachesServed (λ s. TakesTurn sizes b (io a h m) (Ok (Some reply.kind)) (pause old d)
-      (pause s e)) now
-      Matching
-  line_answered E m reply led written =
-      let r = asked_line {E = E} sizes a b buffer request (Ok reply) old (served led.next now) read
-      says led.does in
-      record {
-        next = led.next;
-        does = record {
-          line = read.0;
-          given = r.0;
-          taken = read.1;
-          answer = r.2;
-          kind = r.1.kind;
-          written = subst (Appends h m) r.1.line written;
-          rest_is = r.3.rest;
-          works = r.3.works;
-        };
-        matches = led.matches;
-      }
+    pub line_unmade : {E : Type 0} (x : E) → LineReplies {E = E} (Err x)
+        → ReachesServed (λ s. TakesTurn sizes b (io a h h) (Err fault.NoMemory) (pause old d)
+        (pause s e)) now
+        Matching
+    line_unmade x led = record {
+      next = led.next;
+      does = unmade sizes a b h old (served led.next now) line x taken led.does;
+      matches = led.matches;
+    }
 
-  pub line_unwritten : (E : Type 0) (m : Option (List ℕ)) (reply : Reply)
-      → ReachesServed (Replies {E = E} sizes (option_map seen request) (Ok reply) old) now Matching
-      → WritesPart h m reply.line.items
-      → ReachesServed (λ s. TakesTurn sizes b (io a h m) (Err fault.Output) (pause old d)
-      (pause s e)) now Matching
-  line_unwritten E m reply led written =
-      let r = asked_line {E = E} sizes a b buffer request (Ok reply) old (served led.next now) read
-      says led.does in
-      record {
-        next = led.next;
-        does = record {
-          line = read.0;
-          given = r.0;
-          next = begins_with a b (read.0 ∷ []) read.1;
-          answer = r.2;
-          written = subst (WritesPart h m) r.1.line written;
-        };
-        matches = led.matches;
-      }
+    pub line_answered : (E : Type 0) (m : Option (List ℕ)) (reply : Reply)
+        → LineReplies {E = E} (Ok reply)
+        → Appends h m reply.line.items
+        → ReachesServed (λ s. TakesTurn sizes b (io a h m) (Ok (Some reply.kind)) (pause old d)
+        (pause s e)) now
+        Matching
+    line_answered E m reply led written =
+        let r = led.does in
+        record {
+          next = led.next;
+          does = record {
+            line = line;
+            given = r.0;
+            taken = taken;
+            answer = r.2;
+            kind = r.1.kind;
+            written = subst (Appends h m) r.1.line written;
+            rest_is = r.3.rest;
+            works = r.3.works;
+          };
+          matches = led.matches;
+        }
+
+    pub line_unwritten : (E : Type 0) (m : Option (List ℕ)) (reply : Reply)
+        → LineReplies {E = E} (Ok reply)
+        → WritesPart h m reply.line.items
+        → ReachesServed (λ s. TakesTurn sizes b (io a h m) (Err fault.Output) (pause old d)
+        (pause s e)) now Matching
+    line_unwritten E m reply led written =
+        let r = led.does in
+        record {
+          next = led.next;
+          does = record {
+            line = line;
+            given = r.0;
+            next = begins_with a b (line ∷ []) taken;
+            answer = r.2;
+            written = subst (WritesPart h m) r.1.line written;
+          };
+          matches = led.matches;
+        }

@@ -3,7 +3,5 @@ pub mod Runs
 pub mod Serving
 pub mod Applied
 pub mod Ahead
-pub mod Calls
-pub mod Threads
 pub mod Texts
 pub mod Replies

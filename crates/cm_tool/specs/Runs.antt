@@ -6,22 +6,15 @@ use Rattle.std.specs.Io.KnownBytes.{Appends, Keeps}
 use Rattle.cm_pool.specs.Geometry.{Sizes}
 use Rattle.cm_session.specs.Storing.{IsAtRest}
 use Rattle.cm_lines.specs.declared.fault.LineFault.{LineFault}
-use Rattle.cm_lines.specs.declared.fault.LineFault.TheVariants as line_fault
+use Rattle.cm_lines.specs.declared.fault.LineFault.TheVariants as fault
 use Rattle.cm_lines.specs.Lines.{lines_of}
 use Rattle.cm_lines.specs.Streams.{Io, TakesLines, HasNoLine, ScriptBegins, WritesPart}
 use Rattle.cm_tool.specs.declared.reply.ReplyKind.{ReplyKind}
 use Rattle.cm_tool.specs.Texts.{ReplyText}
 use Rattle.cm_tool.specs.Replies.{is_refused, is_unsure, reply_line, reply_lines}
 use Rattle.cm_tool.specs.declared.script.Outcome.{Outcome}
-use Rattle.cm_tool.specs.declared.script.ToolFault.{ToolFault}
-use Rattle.cm_tool.specs.declared.script.ToolFault.TheVariants as fault
 use Rattle.cm_tool.specs.Answers.{Served, AnswersLine, Pause, StandsBetween}
 use Rattle.cm_tool.specs.Answers.{AnswersEach, AnswersAll}
-
-abbrev pub fault_of : LineFault → ToolFault
-fault_of line_fault.Input = fault.Input
-fault_of line_fault.Output = fault.Output
-fault_of line_fault.NoMemory = fault.NoMemory
 
 -- ---- one line
 
@@ -58,7 +51,7 @@ pub record BreaksBefore (io : Io) (old new : Served) : Type 0 where
 
 -- A failing reader breaks before a line, a failing writer in one. A failed allocation breaks before
 -- it, or in it with nothing of its reply written.
-abbrev pub RunBreaks : Sizes → ToolFault → Io → Served → Served → Type 0
+abbrev pub RunBreaks : Sizes → LineFault → Io → Served → Served → Type 0
 RunBreaks sizes fault.Input io old new = BreaksBefore io old new
 RunBreaks sizes fault.Output io old new = BreaksIn sizes io old new
 RunBreaks sizes fault.NoMemory io old new =
@@ -66,7 +59,7 @@ RunBreaks sizes fault.NoMemory io old new =
 
 -- `rest` is what the reader gives after the line
 abbrev pub TakesTurn : {D : Type 0} → Sizes → Option (List ℕ) → Io
-    → Result (Option ReplyKind) ToolFault
+    → Result (Option ReplyKind) LineFault
     → Pause D → Pause D → Type 0
 TakesTurn sizes rest io (Ok (Some k)) old new = Turned sizes rest io k old.served new.served
 TakesTurn sizes rest io (Ok None) old new = HasEnded io old new
@@ -105,7 +98,7 @@ pub record EndsIn (sizes : Sizes) (io : Io) (lines : List (List ℕ)) (replies :
   pub whole : reply_line given ≡ part ++ rest
   pub written : Appends io.before io.after (reply_lines replies ++ part)
 
-abbrev pub Ends : Sizes → ToolFault → Io → List (List ℕ) → List ReplyText → Served → Served → Type 0
+abbrev pub Ends : Sizes → LineFault → Io → List (List ℕ) → List ReplyText → Served → Served → Type 0
 Ends sizes fault.Input io lines replies between new = EndsBefore io replies between new
 Ends sizes fault.Output io lines replies between new = EndsIn sizes io lines replies between new
 Ends sizes fault.NoMemory io lines replies between new =
@@ -117,7 +110,7 @@ Ends sizes fault.NoMemory io lines replies between new =
 -- failed allocation before it, or in it with nothing of its reply written. In this line as in the
 -- others, at each moment a crash left what stands for all that was acknowledged before.
 pub record EndsEarly {D : Type 0} (Leaves : D → D → (List ℕ → Type 0) → Type 0) (sizes : Sizes)
-    (io : Io) (e : ToolFault) (old new : Pause D) : Type 0 where
+    (io : Io) (e : LineFault) (old new : Pause D) : Type 0 where
   pub lines : List (List ℕ)
   pub begins : ScriptBegins io.script lines
   pub replies : List ReplyText
@@ -128,6 +121,6 @@ pub record EndsEarly {D : Type 0} (Leaves : D → D → (List ℕ → Type 0) �
       (StandsBetween sizes between.served.machine new.served.machine)
 
 abbrev pub IsRun : {D : Type 0} → (D → D → (List ℕ → Type 0) → Type 0) → Sizes → Io
-    → Result Outcome ToolFault → Pause D → Pause D → Type 0
+    → Result Outcome LineFault → Pause D → Pause D → Type 0
 IsRun Leaves sizes io (Ok outcome) old new = IsAnswered Leaves sizes io outcome old new
 IsRun Leaves sizes io (Err e) old new = EndsEarly Leaves sizes io e old new

@@ -1,6 +1,8 @@
 //! Lines that are read ahead, and the classes that they define.
 
-ghost use Rattle.std.specs.Prelude.{◌≡◌, ◌<◌, ◌≤◌, Ok, None, IfSome};
+ghost use Rattle.std.specs.Prelude.{◌≡◌, ◌<◌, ◌≤◌, Ok, None, IfSome, IfErr};
+ghost use Rattle.std.specs.Io.KnownBytes.{Keeps};
+ghost use Rattle.std.specs.Thread.{IsSync};
 ghost use Rattle.hex.specs.Hex.{decode_of};
 ghost use Rattle.cm_tool.specs.Ahead.{IsClassOf, IsDefinedThere};
 
@@ -12,13 +14,14 @@ use std::io::{BufRead, ErrorKind};
 use std::marker::Model;
 use std::thread;
 use std::thread::Threads;
+use std::vec::IntoIter;
 
-/// How many lines are read ahead at most.
+/// How many lines are looked at at once at most.
 const MOST_LINES: usize = 1_024;
 
-/// How many bytes of lines are worth a thread: to start one takes about as long as to prepare the
-/// classes of a half of these.
-const BYTES_A_THREAD: usize = 32_768;
+/// How many bytes of lines are worth a thread: to start it, and to read these lines twice, takes
+/// less than it saves.
+const BYTES_A_THREAD: usize = 131_072;
 
 /// The class that a line defines.
 #[derive(Drop)]
@@ -36,6 +39,111 @@ pub enum LineClass {
 pub struct Defined {
     pub loader: Vec<u8>,
     pub class: LineClass,
+}
+
+/// What is known of a script's lines before they are run.
+pub trait Ahead {
+    /// What looking ahead rests on.
+    ghost may_look: { Type 0 };
+
+    /// Called before a line is read: may look at what the reader shows, and takes nothing from it.
+    fn look<R: BufRead>(&mut self, alloc: Global, reader: &mut R) -> Result<(), LineFault>
+        requires { may_look }
+        ensures keeps { Keeps (R.remaining reader.old) (R.remaining reader.new) }
+        ensures fault { IfErr result (λ e. e ≡ LineFault.Input) };
+
+    /// What a line defines, if that is known.
+    fn defined(&mut self, line: &LineBuffer) -> Option<Defined>
+        ensures { IsDefinedThere line.now result };
+}
+
+/// Nothing is known of a line before it is run.
+#[derive(Drop)]
+pub struct NothingAhead;
+
+impl Ahead for NothingAhead {
+    ghost may_look = { Unit {0} };
+
+    fn look<R: BufRead>(&mut self, _alloc: Global, _reader: &mut R) -> Result<(), LineFault> {
+        Ok(())
+    }
+
+    fn defined(&mut self, _line: &LineBuffer) -> Option<Defined> {
+        None
+    }
+}
+
+/// The lines that the reader shows, whose classes are prepared by several threads if that is worth
+/// it.
+#[derive(Drop)]
+pub struct LinesAhead<'a, T> {
+    rt: &'a T,
+    /// How many threads at most.
+    workers: usize,
+    /// The next lines, if their classes are prepared.
+    lines: IntoIter<LineAhead>,
+    /// How many lines are run before the reader is looked at again.
+    left: usize,
+    ghost has_workers: { 0 < workers },
+}
+
+impl<'a, T: Threads + Sync> LinesAhead<'a, T> {
+    /// No lines yet.
+    pub fn new(rt: &'a T, alloc: Global, workers: usize) -> LinesAhead<'a, T>
+        requires { 0 < workers }
+    {
+        LinesAhead {
+            rt,
+            workers,
+            lines: Vec::new(alloc).into_iter(),
+            left: 0,
+        }
+    }
+
+    /// Prepares the classes of the lines that are shown whole, if that is worth several threads.
+    fn prepare(&mut self, alloc: Global, shown: &[u8]) {
+        let text = whole_lines(shown);
+        let (mut lines, bytes) = read_lines(alloc, text);
+        self.left = lines.len();
+        let threads = (bytes / BYTES_A_THREAD).clamp(1, self.workers);
+        if threads > 1 {
+            thread::for_each_mut(
+                self.rt,
+                &mut lines,
+                threads,
+                &|_, line: &mut LineAhead| { line.prepare(alloc) },
+            );
+            self.lines = lines.into_iter();
+        }
+    }
+}
+
+impl<T: Threads + Sync> Ahead for LinesAhead<'_, T> {
+    ghost may_look = { IsSync T.row };
+
+    fn look<R: BufRead>(&mut self, alloc: Global, reader: &mut R) -> Result<(), LineFault> {
+        if self.left == 0 {
+            match reader.fill_buf() {
+                Ok(shown) => self.prepare(alloc, shown),
+                Err(error) if error.kind() == ErrorKind::Interrupted => {}
+                Err(_) => return Err(LineFault::Input),
+            }
+        }
+        self.left = self.left.saturating_sub(1);
+        Ok(())
+    }
+
+    fn defined(&mut self, line: &LineBuffer) -> Option<Defined> {
+        let Known {
+            line: ahead,
+            defined,
+        } = self.lines.next()?.into_known();
+        if line.is_same_line(&ahead) {
+            defined
+        } else {
+            None
+        }
+    }
 }
 
 /// A line, and what is known of what it defines.
@@ -84,7 +192,7 @@ impl LineAhead {
     }
 
     /// The line, and what is known of what it defines.
-    pub fn into_known(self) -> Known
+    fn into_known(self) -> Known
         ensures value { result ≡ self }
         ensures defined { IsDefinedThere result.line result.defined }
     {
@@ -141,91 +249,27 @@ fn class_of_bytes(alloc: Global, bytes: &[u8]) -> LineClass
     }
 }
 
-/// Lines that are read before they are run, and what comes after them.
-#[derive(Drop)]
-pub struct Batch {
-    pub lines: Vec<LineAhead>,
-    /// Whether more lines may follow, or why none is read.
-    pub more: Result<bool, LineFault>,
-}
-
-impl Batch {
-    /// Reads this many lines, if there are as many.
-    pub fn read<R: BufRead>(alloc: Global, reader: &mut R, count: usize) -> Batch {
-        let mut lines = Vec::new(alloc);
-        let more = read_lines(alloc, reader, &mut lines, count);
-        Batch { lines, more }
-    }
-
-    /// Prepares the classes that the lines define, in this many threads.
-    pub fn prepare<T: Threads + Sync>(&mut self, rt: &T, alloc: Global, threads: usize)
-        requires { 0 < threads }
-    {
-        thread::for_each_mut(
-            rt,
-            &mut self.lines,
-            threads,
-            &|_, line: &mut LineAhead| { line.prepare(alloc) },
-        );
+/// The lines that are whole in what a reader shows: what precedes the last newline, and that.
+fn whole_lines(shown: &[u8]) -> &[u8] {
+    match shown.iter().rposition(|byte| *byte == b'\n') {
+        Some(last) => &shown[..=last],
+        None => &[],
     }
 }
 
-/// Reads this many lines, if there are as many. The lines before an `Err` are kept.
-fn read_lines<R: BufRead>(
-    alloc: Global,
-    reader: &mut R,
-    lines: &mut Vec<LineAhead>,
-    count: usize,
-) -> Result<bool, LineFault> {
-    for _ in 0..count {
+/// The first lines of a text, up to a limit and as far as there is memory, and how many bytes they
+/// have, with their newlines.
+fn read_lines(alloc: Global, text: &[u8]) -> (Vec<LineAhead>, usize) {
+    let mut rest = text;
+    let mut lines = Vec::new(alloc);
+    for _ in 0..MOST_LINES {
         let mut line = LineBuffer::new(alloc);
-        if !read_line(reader, &mut line)? {
-            return Ok(false);
+        if !matches!(read_line(&mut rest, &mut line), Ok(true)) {
+            break;
         }
         if lines.push(LineAhead::new(line)).is_err() {
-            return Err(LineFault::NoMemory);
+            break;
         }
     }
-    Ok(true)
-}
-
-/// The lines that can be read without waiting.
-#[derive(Clone, Copy, Debug)]
-pub struct Shown {
-    /// How many to read: those that the reader has buffered whole, and at least one.
-    pub count: usize,
-    /// About how many bytes they have.
-    bytes: usize,
-}
-
-impl Shown {
-    /// Looks at what the reader has buffered. Waits only if that is nothing.
-    pub fn by<R: BufRead>(reader: &mut R) -> Result<Shown, LineFault> {
-        match reader.fill_buf() {
-            Ok(shown) => Ok(Shown::among(shown)),
-            Err(error) if error.kind() == ErrorKind::Interrupted => Ok(Shown {
-                count: 1,
-                bytes: 0,
-            }),
-            Err(_) => Err(LineFault::Input),
-        }
-    }
-
-    fn among(bytes: &[u8]) -> Shown {
-        let newlines = bytes.iter().filter(|byte| **byte == b'\n').count();
-        let count = newlines.clamp(1, MOST_LINES);
-        let each = bytes.len() / newlines.max(1);
-        Shown {
-            count,
-            bytes: each.saturating_mul(count),
-        }
-    }
-
-    /// How many threads, of at most this many, are worth starting to prepare their classes.
-    pub fn threads(&self, workers: usize) -> usize
-        requires { 0 < workers }
-        ensures { (0 < result) × (result ≤ workers) }
-    {
-        (self.bytes / BYTES_A_THREAD).clamp(1, workers)
-    }
+    (lines, text.len().saturating_sub(rest.len()))
 }

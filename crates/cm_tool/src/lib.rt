@@ -6,11 +6,8 @@ mod answer;
 mod apply;
 mod reply;
 mod script;
-mod serving;
 mod texts;
-mod threads;
 
-pub use apply::{ApplyFault, apply_script};
+pub use apply::{ApplyFault, apply_script, apply_threads};
 pub use reply::{Reply, ReplyKind};
-pub use script::{Outcome, ToolFault, run_script, run_to_end};
-pub use threads::apply_threads;
+pub use script::Outcome;

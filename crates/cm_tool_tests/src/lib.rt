@@ -28,3 +28,5 @@ mod streams;
 mod telling;
 #[cfg(test)]
 mod trimming;
+#[cfg(test)]
+mod workers;

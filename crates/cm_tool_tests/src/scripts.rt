@@ -9,7 +9,7 @@ use std::io::BufReader;
 use std::test::*;
 
 /// Class A: 53 bytes, named `A`, of `java/lang/Object`.
-const CLASS_A: &[u8] = b"cafebabe0000003400050700020100014107000401\
+pub const CLASS_A: &[u8] = b"cafebabe0000003400050700020100014107000401\
       00106a6176612f6c616e672f4f626a6563740021000100030000000000000000";
 
 const FINE: Outcome = Outcome {

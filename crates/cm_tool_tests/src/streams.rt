@@ -2,7 +2,8 @@
 
 use crate::disks::{are_replies, has_one_loader, new_disk};
 use cm_disk::SimDisk;
-use cm_tool::{ApplyFault, Outcome, ToolFault, apply_script};
+use cm_lines::LineFault;
+use cm_tool::{ApplyFault, Outcome, apply_script};
 use std::alloc::Global;
 use std::cell::Cell;
 use std::io::{self, BufRead, ErrorKind, Read, Write};
@@ -59,7 +60,7 @@ fn run_failing(alloc: Global) -> Result<(Result<Outcome, ApplyFault>, [bool; 2])
 #[test]
 fn a_reader_that_fails_in_mid_line_ends_the_run(rt: HostRuntime) -> Result<(), Fail> {
     let (outcome, is_there) = run_failing(rt.alloc())?;
-    assert_eq!(rt; outcome, Err(ApplyFault::Script(ToolFault::Input)));
+    assert_eq!(rt; outcome, Err(ApplyFault::Script(LineFault::Input)));
     assert_eq!(rt; is_there, [true; 2]);
     Ok(())
 }
@@ -92,7 +93,7 @@ fn a_writer_that_fails_at_the_second_reply_ends_the_run(rt: HostRuntime) -> Resu
     let script = b"loader a\nloader b\nloader another\n";
     let replies = b"refused 2 loader exists\nrefused 2 loader exists\nok 3\n";
     let are_there = are_replies(alloc, disk, script, replies);
-    assert_eq!(rt; outcome, Err(ApplyFault::Script(ToolFault::Output)));
+    assert_eq!(rt; outcome, Err(ApplyFault::Script(LineFault::Output)));
     assert!(rt; are_there);
     Ok(())
 }
@@ -208,7 +209,7 @@ fn a_writer_that_takes_nothing_ends_the_run(rt: HostRuntime) -> Result<(), Fail>
     let mut reader = b"loader a\nloader b\n".as_slice();
     let (outcome, disk) = run(alloc, &mut reader, &mut FullWriter)?;
     let is_there = has_one_loader(alloc, disk);
-    assert_eq!(rt; outcome, Err(ApplyFault::Script(ToolFault::Output)));
+    assert_eq!(rt; outcome, Err(ApplyFault::Script(LineFault::Output)));
     assert!(rt; is_there);
     Ok(())
 }

@@ -9,7 +9,6 @@ use cm_recover::{FormatFault, format};
 use cm_verdict::OpenFault;
 use std::fs::{self, File, Files};
 use std::io;
-use std::sync::Wait;
 use std::thread::Threads;
 
 /// Makes an empty cache in a new file, and returns the status.
@@ -49,15 +48,12 @@ fn give_up(rt: &(impl Eprint + Files<File = File>), path: &str, disk: FileDisk) 
 /// the status.
 pub fn apply_file<R>(rt: &R, path: &str, workers: usize) -> Status
 where
-    R: Input + Print + Eprint + Files<File = File> + AllocGlobal,
-    R: Threads + Wait + Copy + Send + Sync + 'static,
+    R: Input + Print + Eprint + Files<File = File> + AllocGlobal + Threads + Sync,
 {
     match cm_region_file::open(rt, path) {
         Ok(disk) => {
             let (status, disk) = run_script(rt, disk, workers);
-            if let Some(disk) = disk {
-                tell_failure(rt, path, &disk);
-            }
+            tell_failure(rt, path, &disk);
             status
         }
         Err(error) => say_not_opened(rt, path, error),

@@ -18,7 +18,6 @@ use std::alloc::{AllocError, Global};
 use std::fs::{File, Files};
 use std::process::ExitCode;
 use std::rt::Env;
-use std::sync::Wait;
 use std::thread::Threads;
 
 fn main(rt: HostRuntime) -> ExitCode {
@@ -28,8 +27,7 @@ fn main(rt: HostRuntime) -> ExitCode {
 /// Does what the command line requests, and returns the status.
 fn run<R>(rt: &R) -> Status
 where
-    R: Env + Input + Print + Eprint + Files<File = File> + AllocGlobal,
-    R: Threads + Wait + Copy + Send + Sync + 'static,
+    R: Env + Input + Print + Eprint + Files<File = File> + AllocGlobal + Threads + Sync,
 {
     let words = match read_words(rt) {
         Ok(words) => words,
@@ -55,8 +53,7 @@ fn texts_of(alloc: Global, words: &[String]) -> Result<Vec<&str>, AllocError> {
 
 fn carry_out<R>(rt: &R, action: &Action<'_>) -> Status
 where
-    R: Input + Print + Eprint + Files<File = File> + AllocGlobal,
-    R: Threads + Wait + Copy + Send + Sync + 'static,
+    R: Input + Print + Eprint + Files<File = File> + AllocGlobal + Threads + Sync,
 {
     match action {
         Action::Format(path, geometry) => format_file(rt, path, *geometry),

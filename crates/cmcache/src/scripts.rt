@@ -2,10 +2,10 @@
 
 use crate::status::{fail, say_fault, status_of};
 use cm_disk::Disk;
+use cm_lines::LineFault;
 use cm_maintenance::Status;
-use cm_tool::{ApplyFault, Outcome, ToolFault, apply_script, apply_threads};
+use cm_tool::{ApplyFault, Outcome, apply_script, apply_threads};
 use std::io::{self, BufReader, BufWriter};
-use std::sync::Wait;
 use std::thread::Threads;
 
 /// How many bytes of a script are read at once: by one thread, and ahead for several.
@@ -14,12 +14,11 @@ const READ_AT_ONCE: usize = 8_192;
 const READ_AHEAD: usize = 1_048_576;
 
 /// Runs the script on standard input on a disk's cache, with its replies on standard output and
-/// `workers` workers, and returns the status and the disk. There is no disk if the threads can't be
-/// started.
-pub fn run_script<R, D>(rt: &R, disk: D, workers: usize) -> (Status, Option<D>)
+/// `workers` workers, and returns the status and the disk.
+pub fn run_script<R, D>(rt: &R, disk: D, workers: usize) -> (Status, D)
 where
-    R: Input + Print + Eprint + AllocGlobal + Threads + Wait + Copy + Send + Sync + 'static,
-    D: Disk + Drop + Send + 'static,
+    R: Input + Print + Eprint + AllocGlobal + Threads + Sync,
+    D: Disk,
 {
     let alloc = rt.alloc();
     let capacity = if workers > 1 {
@@ -28,18 +27,17 @@ where
         READ_AT_ONCE
     };
     let Ok(mut reader) = BufReader::with_capacity(alloc, capacity, rt.reader()) else {
-        return (fail(rt, ToolFault::NoMemory), Some(disk));
+        return (fail(rt, LineFault::NoMemory), disk);
     };
     let Ok(mut writer) = BufWriter::new(alloc, io::writer(rt)) else {
-        return (fail(rt, ToolFault::NoMemory), Some(disk));
+        return (fail(rt, LineFault::NoMemory), disk);
     };
-    if workers > 1 {
-        let (run, disk) = apply_threads(rt, alloc, &mut reader, &mut writer, disk, workers);
-        (status_of_run(rt, run), disk)
+    let (run, disk) = if workers > 1 {
+        apply_threads(rt, alloc, &mut reader, &mut writer, disk, workers)
     } else {
-        let (run, disk) = apply_script(alloc, &mut reader, &mut writer, disk);
-        (status_of_run(rt, run), Some(disk))
-    }
+        apply_script(alloc, &mut reader, &mut writer, disk)
+    };
+    (status_of_run(rt, run), disk)
 }
 
 /// Says why a script wasn't run to its end, and returns the status.

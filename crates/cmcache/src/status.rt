@@ -4,9 +4,10 @@ ghost use Rattle.std.specs.Prelude.{◌≡◌, true, false};
 ghost use Rattle.cm_arguments.specs.Action.{IsHelp, IsUsageError};
 
 use cm_arguments::UsageFault;
+use cm_lines::LineFault;
 use cm_maintenance::{Status, tell_fault};
 use cm_recover::FormatFault;
-use cm_tool::{Outcome, ToolFault};
+use cm_tool::Outcome;
 use cm_verdict::OpenFault;
 use std::fmt::Display;
 use std::io;
@@ -44,7 +45,7 @@ pub fn status_of_usage(fault: &UsageFault) -> Status
 pub fn say(rt: &(impl Print + Eprint), text: impl Display + Drop, status: Status) -> Status {
     match println!(rt; "{text}") {
         Ok(()) => status,
-        Err(_) => fail(rt, ToolFault::Output),
+        Err(_) => fail(rt, LineFault::Output),
     }
 }
 

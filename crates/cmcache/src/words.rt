@@ -2,8 +2,8 @@
 
 use crate::status::{fail, status_of_usage};
 use cm_arguments::{UsageFault, wrong_words};
+use cm_lines::LineFault;
 use cm_maintenance::Status;
-use cm_tool::ToolFault;
 use std::rt::Env;
 use std::{env, io};
 
@@ -25,7 +25,7 @@ pub fn tell_fault(rt: &(impl Print + Eprint), fault: &UsageFault) -> Status {
     match fault {
         UsageFault::Help(text) => {
             if print!(rt; "{text}").is_err() {
-                return fail(rt, ToolFault::Output);
+                return fail(rt, LineFault::Output);
             }
         }
         UsageFault::Words(text) => {

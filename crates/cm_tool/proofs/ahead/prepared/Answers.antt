@@ -1,6 +1,6 @@
 use Rattle.std.proofs.Common.{◌∙◌, Some, ap}
 use Rattle.cm_lines.specs.Lines.{asked_by}
-use Rattle.cm_tool.proofs.Calls.{asks, defines}
+use Rattle.cm_tool.proofs.Asking.{asks, defines}
 use Rattle.cm_tool.proofs.ahead.prepared.Goals as goal
 
 pub returns-in-Some-Define : goal.returns-in-Some-Define

@@ -1,10 +1,10 @@
-use Rattle.std.proofs.Common.{◌∙◌, Err, refl, sym, ap, subst}
+use Rattle.std.proofs.Common.{Err, refl, sym, subst}
 use Rattle.std.specs.declared.alloc.AllocError.{AllocError}
 use Rattle.std.specs.Io.KnownBytes.{Appends}
 use Rattle.std.proofs.KnownBytes.{Keeps-refl}
 use Rattle.cm_lines.specs.Streams.{io, ReadsLine, WritesPart}
 use Rattle.cm_tool.specs.Answers.{served, pause}
-use Rattle.cm_tool.specs.Runs.{fault_of, HasEnded, RunBreaks, TakesTurn}
+use Rattle.cm_tool.specs.Runs.{HasEnded, TakesTurn}
 use Rattle.cm_tool.specs.Serving.{ReachesServed, MayProgress}
 use Rattle.cm_tool.proofs.Commands.{stays}
 use Rattle.cm_tool.proofs.Moments.{still}
@@ -14,9 +14,9 @@ use Rattle.cm_tool.proofs.script.take_line.Goals as goal
 pub returns-in-Ok-false-clause-machine : goal.returns-in-Ok-false-clause-machine
 returns-in-Ok-false-clause-machine g c =
     let a = g.R.Read.remaining c.args.reader.now in
-    let b = g.R.Read.remaining c.read_line.new.reader in
+    let b = g.R.Read.remaining c.next_line.new.reader in
     let h = g.W.Write.contents c.args.writer.now in
-    let read = subst (ReadsLine a b c.read_line.new.line) c.in-Ok-false.field-0-test
+    let read = subst (ReadsLine a b c.next_line.new.line) c.in-Ok-false.field-0-test
     c.in-Ok-false.ensures.read in
     let s = c.args.session.now in
     let disk = g.D.Disk in
@@ -35,11 +35,9 @@ returns-in-Err-clause-machine g c =
     let h = g.W.Write.contents c.args.writer.now in
     λ k matches ready.
     stays {Does =
-    λ t. TakesTurn s.committer.sizes (g.R.Read.remaining c.read_line.new.reader) (io a h h)
-    (Err c.from.result) (pause (served k f) disk) (pause t disk)} k f
-    (subst (λ e. RunBreaks s.committer.sizes e (io a h h) (served k f) (served k f))
-    (sym c.from.ensures)
-    (unread s.committer.sizes a h (served k f) c.in-Err.fault c.in-Err.ensures.fault))
+    λ t. TakesTurn s.committer.sizes (g.R.Read.remaining c.next_line.new.reader) (io a h h)
+    (Err c.in-Err.fault) (pause (served k f) disk) (pause t disk)} k f
+    (unread s.committer.sizes a h (served k f) c.in-Err.fault c.in-Err.ensures.fault)
     (still g.D.Disk.view k s matches)
 
 pub returns-in-Err-answer-clause-machine : goal.returns-in-Err-answer-clause-machine
@@ -48,16 +46,15 @@ returns-in-Err-answer-clause-machine g c =
     let new = c.answer.new.session in
     let failures = g.D.Disk.view.failures in
     let a = g.R.Read.remaining c.args.reader.now in
-    let b = g.R.Read.remaining c.read_line.new.reader in
+    let b = g.R.Read.remaining c.next_line.new.reader in
     let h = g.W.Write.contents c.args.writer.now in
-    let buffer = c.read_line.new.line in
-    let read = subst (ReadsLine a b buffer) c.in-Ok-true.field-0-test c.in-Ok-true.ensures.read in
+    let read = subst (ReadsLine a b c.next_line.new.line) c.in-Ok-true.field-0-test
+    c.in-Ok-true.ensures.read in
     λ k matches ready.
     line_unmade s.committer.sizes a b h (served k (failures s.committer.disk))
     (failures new.committer.disk) s.committer.disk new.committer.disk
-    (MayProgress g.D.Disk.view k s new) buffer c.request-request.result read
-    c.request-request.ensures c.in-Err-answer.field-0
-    (c.in-Err-answer.ensures.machine k matches ready)
+    (MayProgress g.D.Disk.view k s new) read.0 read.1 c.in-Err-answer.field-0
+    (c.in-Err-answer.ensures.machine read.0 read.2 k matches ready)
 
 pub returns-in-Ok-write_line-clause-machine : goal.returns-in-Ok-write_line-clause-machine
 returns-in-Ok-write_line-clause-machine g c =
@@ -65,16 +62,16 @@ returns-in-Ok-write_line-clause-machine g c =
     let new = c.answer.new.session in
     let failures = g.D.Disk.view.failures in
     let a = g.R.Read.remaining c.args.reader.now in
-    let b = g.R.Read.remaining c.read_line.new.reader in
+    let b = g.R.Read.remaining c.next_line.new.reader in
     let h = g.W.Write.contents c.args.writer.now in
     let m = g.W.Write.contents c.write_line.new.writer in
-    let buffer = c.read_line.new.line in
-    let read = subst (ReadsLine a b buffer) c.in-Ok-true.field-0-test c.in-Ok-true.ensures.read in
+    let read = subst (ReadsLine a b c.next_line.new.line) c.in-Ok-true.field-0-test
+    c.in-Ok-true.ensures.read in
     λ k matches ready.
     line_answered s.committer.sizes a b h (served k (failures s.committer.disk))
     (failures new.committer.disk) s.committer.disk new.committer.disk
-    (MayProgress g.D.Disk.view k s new) buffer c.request-request.result read
-    c.request-request.ensures AllocError m c.in-Ok.reply (c.in-Ok.ensures.machine k matches ready)
+    (MayProgress g.D.Disk.view k s new) read.0 read.1
+    AllocError m c.in-Ok.reply (c.in-Ok.ensures.machine read.0 read.2 k matches ready)
     (subst (Appends h m) c.deref.ensures.value c.in-Ok-write_line.ensures.ok)
 
 pub returns-clause-machine : goal.returns-clause-machine
@@ -83,19 +80,18 @@ returns-clause-machine g c =
     let new = c.answer.new.session in
     let failures = g.D.Disk.view.failures in
     let a = g.R.Read.remaining c.args.reader.now in
-    let b = g.R.Read.remaining c.read_line.new.reader in
+    let b = g.R.Read.remaining c.next_line.new.reader in
     let h = g.W.Write.contents c.args.writer.now in
     let m = g.W.Write.contents c.write_line.new.writer in
-    let buffer = c.read_line.new.line in
-    let read = subst (ReadsLine a b buffer) c.in-Ok-true.field-0-test c.in-Ok-true.ensures.read in
-    let output = c.from-in-Err-write_line.ensures ∙ ap fault_of c.in-Err-write_line.ensures.fault in
+    let read = subst (ReadsLine a b c.next_line.new.line) c.in-Ok-true.field-0-test
+    c.in-Ok-true.ensures.read in
     λ k matches ready.
     subst (λ e. ReachesServed (λ next. TakesTurn s.committer.sizes b (io a h m) (Err e)
     (pause (served k (failures s.committer.disk)) s.committer.disk) (pause next new.committer.disk))
     (failures new.committer.disk) (MayProgress g.D.Disk.view k s new))
-    (sym output)
+    (sym c.in-Err-write_line.ensures.fault)
     (line_unwritten s.committer.sizes a b h (served k (failures s.committer.disk))
     (failures new.committer.disk) s.committer.disk new.committer.disk
-    (MayProgress g.D.Disk.view k s new) buffer c.request-request.result read
-    c.request-request.ensures AllocError m c.in-Ok.reply (c.in-Ok.ensures.machine k matches ready)
+    (MayProgress g.D.Disk.view k s new) read.0 read.1
+    AllocError m c.in-Ok.reply (c.in-Ok.ensures.machine read.0 read.2 k matches ready)
     (subst (WritesPart h m) c.deref.ensures.value c.in-Err-write_line.ensures.err))

@@ -3,7 +3,7 @@ use Rattle.cm_commit.specs.States.{CommitterState}
 use Rattle.cm_commands.specs.Commands.{change_asked}
 use Rattle.cm_tool.specs.Texts.{number_reply}
 use Rattle.cm_tool.proofs.Commands.{command_replies, number_fits}
-use Rattle.cm_tool.proofs.answer.answer_number.Goals as goal
+use Rattle.cm_tool.proofs.answer.change.Goals as goal
 
 pub returns-clause-machine : goal.returns-clause-machine
 returns-clause-machine g c =
