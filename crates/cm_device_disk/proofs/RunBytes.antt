@@ -1,5 +1,5 @@
 -- Words that were read are those of the contents that they are put into, one run after another.
--- For `History::of_opened`, `OpenedDevice::read_words`.
+-- For `History::of_opened`, `OpenedDevice::read_words`, `read_runs`.
 use Rattle.std.proofs.Common.{Bool, false, get_or}
 use Rattle.std.proofs.Common.{◌≡◌, ◌<◌, ◌≤◌, ◌+◌, ◌-◌, ◌*◌, ◌^◌, ℕ, zero, suc, List, [], ◌∷◌, ◌++◌}
 use Rattle.std.proofs.Common.{length, take, drop, map, true, Option, Some, None}
@@ -9,8 +9,9 @@ use Rattle.std.specs.Prelude.{nat_le}
 use Rattle.std.specs.List.{All, AllByRecursion}
 use Rattle.std.proofs.lemmas.Bool.{and_parts, cases_lt, leb-true, le-leb, lt-leb}
 use Rattle.std.proofs.lemmas.List.{take-take, drop-take, get_or_append_left}
-use Rattle.std.proofs.lemmas.List.{get_or-take, get_or-drop, length-take}
-use Rattle.std.proofs.Math.Seq.{drop-cons, get_or-append_right}
+use Rattle.std.proofs.lemmas.List.{get_or-take, get_or-drop, length-take, map-append}
+use Rattle.std.proofs.Math.Seq.{drop-cons, get_or-append_right, take-suc}
+use Rattle.std.proofs.Math.Numerals.{add-one}
 use Rattle.cm_words.specs.Words.{Words, words_of}
 use Rattle.cm_words.specs.Bytes.{bytes_of, word_bytes, packed_into}
 use Rattle.cm_words.proofs.{length-word_bytes}
@@ -212,3 +213,16 @@ pub ends_here : (ranges : List WordRange) (i from len : ℕ) (d : WordRange) →
 ends_here ranges i from len d lt ends =
     ap (are_ranges from len) (drop-cons ranges i d lt)
     ∙ ranges_end_here from len (get_or ranges i d) (drop (suc i) ranges) ends
+
+-- ---- reading one run after another
+
+pub one_more_run : (runs : List WordRun) (ranges : List WordRange) (i : ℕ) (run : WordRun)
+    (d : WordRange) → i < length ranges → map range_of runs ≡ take i ranges
+    → range_of run ≡ get_or ranges i d
+    → map range_of (runs ++ run ∷ []) ≡ take (i + 1) ranges
+one_more_run runs ranges i run d within read same =
+    map-append range_of runs (run ∷ [])
+    ∙ ap (λ (l : List WordRange). l ++ range_of run ∷ []) read
+    ∙ ap (λ (r : WordRange). take i ranges ++ r ∷ []) same
+    ∙ sym (take-suc ranges i d within)
+    ∙ ap (λ (n : ℕ). take n ranges) (sym (add-one i))

@@ -49,3 +49,7 @@ TellsWords run =
 -- the range ends within the longest disk
 abbrev pub EndsInLimit : WordRange → Type 0
 EndsInLimit r = r.at + 8 * r.count ≤ 2 ^ 40
+
+-- words that were read, if they were, are as many as this and fill their buffer
+abbrev pub HaveCount : ℕ → Option Words → Type 0
+HaveCount count read = ForSome read (λ w. (length w.words ≡ count) × (w.capacity ≡ count))

@@ -10,6 +10,7 @@ ghost use Rattle.cm_device_disk.specs.Image.{image_bytes, image_length, image_ru
 ghost use Rattle.cm_device_disk.specs.Runs.{IsOf, are_ranges};
 ghost use Rattle.cm_device_disk.specs.State.{IsSoundState};
 
+use crate::ahead::WordsAhead;
 use crate::device::Device;
 use crate::fault::ReadError;
 use crate::history::{Call, History};
@@ -83,9 +84,9 @@ impl<V: Device<Fault = F>, F: Copy> DeviceDisk<V, F> {
         }
     }
 
-    /// The disk with the words of these ranges, which are read now. It has none of them if
-    /// something was written or cut, or if the device doesn't have these ranges, one after another,
-    /// after the bytes that were read.
+    /// The disk with the words of these ranges, which are read now unless they were read ahead. It
+    /// has none of them if something was written or cut, or if the device doesn't have these
+    /// ranges, one after another, after the bytes that were read.
     ///
     /// # Errors
     /// As of [`OpenedDevice::read_words`].
@@ -93,6 +94,7 @@ impl<V: Device<Fault = F>, F: Copy> DeviceDisk<V, F> {
         self,
         alloc: Global,
         ranges: &[WordRange],
+        ahead: WordsAhead,
     ) -> Result<DeviceDisk<V, F>, ReadError<F>>
         ensures device { IfOk result (λ d. d.device ≡ self.device) }
         ensures len { IfOk result (λ d. length (disk_contents d) ≡ length (disk_contents self)) }
@@ -105,7 +107,7 @@ impl<V: Device<Fault = F>, F: Copy> DeviceDisk<V, F> {
         ensures cause { IfOk result (λ d. disk_cause d ≡ disk_cause self) }
     {
         match self.into_opened(alloc) {
-            Ok(opened) => Ok(DeviceDisk::of_opened(opened.read_words(alloc, ranges)?)),
+            Ok(opened) => Ok(DeviceDisk::of_opened(opened.read_words(alloc, ranges, ahead)?)),
             Err(disk) => Ok(disk),
         }
     }

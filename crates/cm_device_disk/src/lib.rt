@@ -1,6 +1,7 @@
 //! A disk over any device, which implements the trait of all disks without assumptions.
 #![tactic(auto)]
 
+mod ahead;
 mod device;
 mod disk;
 mod fault;
@@ -10,6 +11,7 @@ mod opening;
 mod pieces;
 mod word_run;
 
+pub use ahead::{RangeWords, WordsAhead, read_part, unread};
 pub use device::Device;
 pub use disk::DeviceDisk;
 pub use fault::ReadError;

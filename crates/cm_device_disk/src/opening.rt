@@ -1,8 +1,10 @@
 //! Devices that were opened for use as a disk, and what was read of them.
-ghost use Rattle.std.specs.Prelude.{◌≡◌, ◌≤◌, ◌^◌, IfOk, length, take, map, min, max, true};
+ghost use Rattle.std.specs.Prelude.{◌≡◌, ◌≤◌, ◌+◌, ◌*◌, ◌^◌, IfOk, length, take, map, min, max};
+ghost use Rattle.std.specs.Prelude.{true};
 ghost use Rattle.std.specs.List.{All};
 ghost use Rattle.cm_device_disk.specs.Runs.{range_of, are_ranges, EndsInLimit, IsFull};
 
+use crate::ahead::WordsAhead;
 use crate::device::Device;
 use crate::fault::ReadError;
 use crate::pieces::Pieces;
@@ -95,7 +97,7 @@ impl<V: Device> OpenedDevice<V> {
 
     /// Reads the words of these ranges, which lie one after another, after the bytes that were
     /// read. Words that were read before are dropped. If the device doesn't have such ranges,
-    /// nothing is read, and nothing is dropped.
+    /// nothing is read, and nothing is dropped. Words that were read ahead aren't read again.
     ///
     /// # Errors
     /// As of [`OpenedDevice::of_device`].
@@ -103,6 +105,7 @@ impl<V: Device> OpenedDevice<V> {
         self,
         alloc: Global,
         ranges: &[WordRange],
+        ahead: WordsAhead,
     ) -> Result<OpenedDevice<V>, ReadError<V::Fault>>
         ensures device { IfOk result (λ d. d.device ≡ self.device) }
         ensures len { IfOk result (λ d. d.len ≡ self.len) }
@@ -120,7 +123,7 @@ impl<V: Device> OpenedDevice<V> {
             beginning,
             runs: _,
         } = self;
-        let runs = read_runs(&mut Pieces::new(&device, alloc)?, alloc, ranges)?;
+        let runs = read_runs(&mut Pieces::new(&device, alloc)?, alloc, ranges, ahead)?;
         Ok(OpenedDevice {
             device,
             len,
@@ -151,6 +154,7 @@ fn read_runs<V: Device>(
     pieces: &mut Pieces<V>,
     alloc: Global,
     ranges: &[WordRange],
+    mut ahead: WordsAhead,
 ) -> Result<Vec<WordRun>, ReadError<V::Fault>>
     requires { All EndsInLimit ranges.now }
     ensures ranges { IfOk result (λ runs. map range_of runs.items ≡ ranges.now) }
@@ -158,11 +162,28 @@ fn read_runs<V: Device>(
 {
     let mut runs = Vec::with_capacity(alloc, ranges.len())?;
     for range in ranges {
-        let words = pieces.words(alloc, *range)?;
-        runs.push(WordRun {
-            at: range.at,
-            words: Some(words),
-        })?;
+        let run = read_run(pieces, alloc, *range, &mut ahead)?;
+        runs.push(run)?;
     }
     Ok(runs)
+}
+
+/// The words of a range, which are read unless they were read ahead.
+fn read_run<V: Device>(
+    pieces: &mut Pieces<V>,
+    alloc: Global,
+    range: WordRange,
+    ahead: &mut WordsAhead,
+) -> Result<WordRun, ReadError<V::Fault>>
+    requires { range.at + 8 * range.count ≤ 2 ^ 40 }
+    ensures { IfOk result (λ run. (range_of run ≡ range) × IsFull run) }
+{
+    let words = match ahead.next(range) {
+        Some(words) => words,
+        None => pieces.words(alloc, range)?,
+    };
+    Ok(WordRun {
+        at: range.at,
+        words: Some(words),
+    })
 }

@@ -1,7 +1,7 @@
 //! Disks whose calls are left to the caller.
 
 use cm_deferred_disk::{Call, DeferredDisk, LastCall, ListedCalls, ListedDisk, SliceDevice};
-use cm_device_disk::{DeviceDisk, OpenedDevice, ReadError};
+use cm_device_disk::{DeviceDisk, OpenedDevice, ReadError, WordsAhead};
 use cm_disk::{DeviceFault, Disk, WordRange};
 use std::alloc::Global;
 use std::test::*;
@@ -78,7 +78,7 @@ fn with_last_word(
 ) -> Result<DeferredDisk, ReadError<DeviceFault>> {
     let opened = OpenedDevice::of_device(alloc, SliceDevice::new(bytes), 8192)?;
     let range = WordRange { at: 8184, count: 1 };
-    let disk = DeviceDisk::of_opened(opened).read_words(alloc, &[range])?;
+    let disk = DeviceDisk::of_opened(opened).read_words(alloc, &[range], WordsAhead::none(alloc))?;
     Ok(disk.with_device(LastCall::new(alloc, 0)?))
 }
 

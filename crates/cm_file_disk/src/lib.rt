@@ -1,10 +1,12 @@
 //! A disk over a real file.
 #![tactic(auto)]
 
+mod ahead;
 mod device;
 mod fault;
 mod opening;
 
+pub use ahead::read_ahead;
 use cm_device_disk::{DeviceDisk, OpenedDevice};
 pub use device::FileDevice;
 pub use fault::{CreateError, OpenError};

@@ -4,5 +4,5 @@
 mod opening;
 mod sizes;
 
-pub use opening::disk_of;
+pub use opening::{disk_of, disk_without_records};
 pub use sizes::most_bytes_a_write;

@@ -2,7 +2,8 @@
 ghost use Rattle.std.specs.Prelude.{◌≡◌, length, IfOk};
 ghost use Rattle.cm_device_disk.specs.DeviceDisk.{disk_contents};
 
-use cm_device_disk::{Device, DeviceDisk, OpenedDevice, ReadError};
+use cm_device_disk::{Device, DeviceDisk, OpenedDevice, ReadError, WordsAhead};
+use cm_disk::WordRange;
 use cm_verdict::{OpenFault, bytes_before_roots, record_ranges};
 use std::alloc::Global;
 
@@ -22,11 +23,27 @@ pub fn disk_of<V: Device<Fault = F>, F: Copy>(
 ) -> Result<DeviceDisk<V, F>, ReadError<F>>
     ensures { IfOk result (λ d. length (disk_contents d) ≡ opened.len) }
 {
+    let (disk, ranges) = disk_without_records(alloc, opened)?;
+    disk.read_words(alloc, &ranges, WordsAhead::none(alloc))
+}
+
+/// The same disk before the words of the records are read, and their ranges: none if the device
+/// holds no cache whose rows are sound. A caller may read these words by several threads, for
+/// [`DeviceDisk::read_words`].
+///
+/// # Errors
+/// As of [`OpenedDevice::read_on`].
+pub fn disk_without_records<V: Device<Fault = F>, F: Copy>(
+    alloc: Global,
+    opened: OpenedDevice<V>,
+) -> Result<(DeviceDisk<V, F>, Vec<WordRange>), ReadError<F>>
+    ensures { IfOk result (λ p. length (disk_contents p.0) ≡ opened.len) }
+{
     let reach = bytes_before_roots(opened.beginning());
     let mut disk = DeviceDisk::of_opened(opened.read_on(alloc, reach)?);
     match record_ranges(alloc, &mut disk) {
-        Ok(ranges) => disk.read_words(alloc, &ranges),
+        Ok(ranges) => Ok((disk, ranges)),
         Err(OpenFault::NoMemory) => Err(ReadError::NoMemory),
-        Err(_) => Ok(disk),
+        Err(_) => Ok((disk, Vec::new(alloc))),
     }
 }

@@ -50,7 +50,12 @@ pub fn apply_file<R>(rt: &R, path: &str, workers: usize) -> Status
 where
     R: Input + Print + Eprint + Files<File = File> + AllocGlobal + Threads + Sync,
 {
-    match cm_region_file::open(rt, path) {
+    let opened = if workers > 1 {
+        cm_region_file::open_in_threads(rt, path, workers)
+    } else {
+        cm_region_file::open(rt, path)
+    };
+    match opened {
         Ok(disk) => {
             let (status, disk) = run_script(rt, disk, workers);
             tell_failure(rt, path, &disk);
