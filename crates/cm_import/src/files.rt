@@ -1,5 +1,7 @@
 //! The files that are read, and the cache's file.
 
+ghost use Rattle.std.specs.Prelude.{◌<◌};
+
 use crate::arguments::Wanted;
 use crate::messages::{say, warn};
 use crate::sizes::{count_records, sizes_for};
@@ -10,6 +12,7 @@ use cm_recover::{FormatFault, format};
 use cm_verdict::OpenFault;
 use std::alloc::AllocError;
 use std::fs::{self, File, Files};
+use std::thread::Threads;
 
 /// What is found under paths.
 pub fn find_all<R>(rt: &R, paths: &[String]) -> Result<Found, AllocError>
@@ -62,12 +65,14 @@ fn give_up(rt: &(impl Eprint + Files<File = File>), path: &str, disk: FileDisk) 
     }
 }
 
-/// The disk of the cache's file. If it isn't opened, says so, and gives the status.
-pub fn open_disk<R>(rt: &R, path: &str) -> Result<FileDisk, Status>
+/// The disk of the cache's file, whose records this many threads read. If it isn't opened, says so,
+/// and gives the status.
+pub fn open_disk<R>(rt: &R, path: &str, threads: usize) -> Result<FileDisk, Status>
 where
-    R: Print + Eprint + Files<File = File> + AllocGlobal,
+    R: Print + Eprint + Files<File = File> + AllocGlobal + Threads + Sync,
+    requires { 0 < threads }
 {
-    match cm_region_file::open(rt, path) {
+    match cm_region_file::open_in_threads(rt, path, threads) {
         Ok(disk) => Ok(disk),
         Err(OpenError::NoMemory) => Err(say(rt, OpenFault::NoMemory, Status::Failed)),
         Err(error) => {

@@ -57,7 +57,7 @@ where
             return status;
         }
     }
-    let disk = match open_disk(rt, request.file.as_str()) {
+    let disk = match open_disk(rt, request.file.as_str(), request.workers.get()) {
         Ok(disk) => disk,
         Err(status) => return status,
     };
@@ -82,7 +82,8 @@ where
 {
     let mut feed = feed;
     let loader = request.loader.as_str().as_bytes();
-    let (result, disk) = import(rt, rt.alloc(), loader, &mut feed, disk);
+    let workers = request.workers.get();
+    let (result, disk) = import(rt, rt.alloc(), loader, &mut feed, disk, workers);
     tell_failure(rt, request.file.as_str(), &disk);
     let report = feed.into_report();
     match result {

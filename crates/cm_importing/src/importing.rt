@@ -139,7 +139,8 @@ fn import_opened<R: Threads + Sync, D: Disk, F: Feed>(
 /// A crash at any moment leaves the cache that was opened, with all classes that the feed was told
 /// as stored, and a beginning of those that were accepted of the group that it gave last.
 ///
-/// The disk is handed back in any case.
+/// This many threads judge the records of the cache when it is opened. The disk is handed back in
+/// any case.
 ///
 /// # Errors
 /// [`ImportFault::Open`]: the cache isn't opened; [`ImportFault::Loader`]: the loader can't be
@@ -151,10 +152,12 @@ pub fn import<R: Threads + Sync, D: Disk, F: Feed>(
     loader: &[u8],
     feed: &mut F,
     disk: D,
+    threads: usize,
 ) -> (Result<u64, ImportFault>, D)
+    requires { 0 < threads }
     ensures { Imports D.view loader.now (F.log feed.old) (F.log feed.new) disk result.0 result.1 }
 {
-    match cm_session::open(alloc, disk) {
+    match cm_session::open_in_threads(rt, alloc, disk, threads) {
         Ok(session) => import_opened(rt, alloc, session, loader, feed),
         Err(NotOpened { fault, disk }) => (Err(ImportFault::Open(fault)), disk),
     }

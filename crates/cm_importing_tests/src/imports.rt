@@ -30,7 +30,7 @@ pub fn import_groups<R: Threads + Sync + AllocGlobal, D: Disk + Drop>(
     disk: D,
 ) -> Result<(Result<u64, ImportFault>, Told, D), Fail> {
     let mut groups = Groups::new(rt.alloc(), names)?;
-    let (result, disk) = import(rt, rt.alloc(), b"app", &mut groups, disk);
+    let (result, disk) = import(rt, rt.alloc(), b"app", &mut groups, disk, 2);
     Ok((result, groups.told(), disk))
 }
 
@@ -86,7 +86,7 @@ fn left_by<R: Threads + Sync + AllocGlobal>(
     disk: SimDisk,
 ) -> Result<(Result<u64, ImportFault>, usize), Fail> {
     let mut groups = Groups::new(rt.alloc(), &[b"A", b"B"])?;
-    let (result, _disk) = import(rt, rt.alloc(), loader, &mut groups, disk);
+    let (result, _disk) = import(rt, rt.alloc(), loader, &mut groups, disk, 2);
     Ok((result, groups.left()))
 }
 
@@ -107,7 +107,7 @@ fn classes_for_which_there_is_no_room_are_refused(rt: HostRuntime) -> Result<(),
     let mut left = Vec::new(alloc);
     left.push(many_classes(alloc, 140)?)?;
     let mut groups = Groups::of(left);
-    let (result, _disk) = import(&rt, alloc, b"app", &mut groups, new_disk(alloc)?);
+    let (result, _disk) = import(&rt, alloc, b"app", &mut groups, new_disk(alloc)?, 2);
     let wanted = Told {
         stored: 127,
         there: 0,
