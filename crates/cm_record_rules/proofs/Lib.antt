@@ -11,4 +11,5 @@ mod KeptRules
 mod JudgedRules
 mod Filled
 mod FirstMembers
+mod MarkedMembers
 mod Judgements

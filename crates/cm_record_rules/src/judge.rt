@@ -18,7 +18,7 @@ use std::alloc::Global;
 
 /// Whether the class is found to keep all rules.
 #[tactic(auto, using(crate::proofs::JudgedRules::no_fault_judged))]
-fn keeps_rules(class: &LaidClass) -> bool
+fn keeps_rules(alloc: Global, class: &LaidClass) -> bool
     ensures { result ≡ true → fault class.now ≡ None }
 {
     is_cheap(class)
@@ -29,8 +29,8 @@ fn keeps_rules(class: &LaidClass) -> bool
         && fields_keep(class)
         && methods_keep(class)
         && attributes_keep(class)
-        && no_twins(class, &class.fields())
-        && no_twins(class, &class.methods())
+        && no_twins(alloc, class, &class.fields())
+        && no_twins(alloc, class, &class.methods())
 }
 
 /// Whether the class of a record is found to keep all class rules: a quick test over the record's
@@ -48,7 +48,7 @@ pub fn judge_words(alloc: Global, scratch: &mut Vec<u8>, words: &[u64]) -> bool
         Ok(()) => {
             let (bytes, tags) = scratch.split_at(8 * words.len());
             match judgements(alloc, &LaidClass::new(words, bytes, tags)) {
-                Ok(table) => keeps_rules(&LaidClass::judged(words, bytes, tags, &table)),
+                Ok(table) => keeps_rules(alloc, &LaidClass::judged(words, bytes, tags, &table)),
                 Err(_) => false,
             }
         }
