@@ -2,14 +2,14 @@ mod RunBytes
 mod AttributesThere
 mod Tags
 mod ConstantsThere
+mod TextRuns
 mod Whole
 mod Iterators
 mod Counted
 mod Slots
 mod Searches
 mod KeptRules
-mod JudgedRules
 mod Filled
 mod FirstMembers
 mod MarkedMembers
-mod Judgements
+mod PlainNames

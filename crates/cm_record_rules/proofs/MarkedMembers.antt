@@ -2,7 +2,7 @@
 -- For `is_apart`, `no_twins`.
 use Rattle.std.proofs.Common.{◌≡◌, ℕ, zero, suc, ◌+◌, ◌∷◌, Bool, true, false, not, List, [], ◌++◌}
 use Rattle.std.proofs.Common.{map, take, drop, refl, sym, ap, ◌∙◌, add-one}
-use Rattle.std.specs.Prelude.{◌&&◌, ◌==◌, bytes_eq}
+use Rattle.std.specs.Prelude.{◌==◌, bytes_eq}
 use Rattle.std.specs.List.{list_all, list_any}
 use Rattle.std.proofs.lemmas.Bool.{eq-eqb}
 use Rattle.std.proofs.lemmas.Slice.Eq.{bytes_eq-Decides}

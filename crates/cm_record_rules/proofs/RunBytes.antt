@@ -13,7 +13,7 @@ use Rattle.cm_record_layout.specs.Packing.{run_words}
 use Rattle.cm_record_layout.proofs.{front_back, length-bytes_of}
 use Rattle.cm_record_rules.specs.Laid.{run_bytes}
 
-drop_fits : (n : ℕ) (bytes : List ℕ) → AreBytes bytes → AreBytes (drop n bytes)
+pub drop_fits : (n : ℕ) (bytes : List ℕ) → AreBytes bytes → AreBytes (drop n bytes)
 drop_fits zero bytes are = are
 drop_fits (suc n) [] are = tt
 drop_fits (suc n) (b ∷ bytes) are = drop_fits n bytes are.1

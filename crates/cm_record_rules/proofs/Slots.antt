@@ -1,10 +1,10 @@
 -- The constants of a pool, one index after another.
--- For `constants_keep`.
-use Rattle.std.proofs.Common.{◌≡◌, ◌<◌, ◌≤◌, ◌+◌, ℕ, zero, suc, Bool, true, false, List, [], ◌∷◌}
+-- For `constants_keep`, `have_form`, `is_kept_at`.
+use Rattle.std.proofs.Common.{◌≡◌, ◌<◌, ◌≤◌, ◌+◌, ℕ, zero, suc, Bool, true, List, [], ◌∷◌}
 use Rattle.std.proofs.Common.{length}
 use Rattle.std.proofs.Common.{take, get_or, slice_get, refl, sym, ap, ◌∙◌, arith}
 use Rattle.std.proofs.lemmas.List.{take_all}
-use Rattle.std.specs.Prelude.{◌&&◌, option_and_then}
+use Rattle.std.specs.Prelude.{option_and_then}
 use Rattle.std.specs.Option.{option_map_or}
 use Rattle.std.specs.List.{list_all}
 use Rattle.std.proofs.lemmas.List.Folds.{list_all_more}
@@ -13,13 +13,11 @@ use Rattle.cm_class.specs.declared.constant.Slot.{Slot}
 use Rattle.cm_class.specs.declared.constant.Slot.TheVariants.{Usable, Unusable}
 use Rattle.cm_class.specs.declared.class_file.ClassFile.{ClassFile}
 use Rattle.cm_class.specs.Names.{constant_named, constant_in}
-use Rattle.cm_class.specs.Spelling.{ClassConstant, tag}
+use Rattle.cm_class.specs.Spelling.{ClassConstant}
 use Rattle.cm_class.specs.declared.constant.Constant.TheVariants as constant
-use Rattle.cm_descriptors.specs.Forms.{has_utf8_form}
 use Rattle.cm_constraints.specs.Constants.{in_slot}
 use Rattle.cm_rules.specs.Fault.{pool_rule}
 use Rattle.cm_rules.specs.Kept.{constant_keeps}
-use Rattle.cm_record_rules.specs.Judged.{constant_is_right}
 
 module _ (test : ClassConstant → Bool) where
   slot_there : (slots : List Slot) (i : ℕ) → i < length slots
@@ -49,31 +47,8 @@ module _ (test : ClassConstant → Bool) where
       → list_all (in_slot test) (take i c.slots) ≡ true → list_all (in_slot test) c.slots ≡ true
   all_of c i le so_far = ap (list_all (in_slot test)) (sym (take_all i c.slots le)) ∙ so_far
 
--- ---- what is required of a Utf8, and of any other constant
+-- ---- what is required of a Utf8, except its form
 
-pub form_alone : (c : ClassFile) (text : List ℕ)
-    → constant_is_right c (constant.Utf8 text) ≡ has_utf8_form text
-unfolding constant_is_right constant_keeps pool_rule
-form_alone c text = by_form (has_utf8_form text)
-  where
-    by_form : (b : Bool) → (b && true) ≡ b
-    by_form true = refl
-    by_form false = refl
-
-pub other_alone : (c : ClassFile) (d : ClassConstant) → (tag d ≡ 1 → ⊥)
-    → constant_keeps c d ≡ constant_is_right c d
-unfolding constant_is_right
-other_alone c (constant.Utf8 text) h = absurd (h refl)
-other_alone c (constant.Integer bits) h = refl
-other_alone c (constant.Float bits) h = refl
-other_alone c (constant.Long bits) h = refl
-other_alone c (constant.Double bits) h = refl
-other_alone c (constant.Class name) h = refl
-other_alone c (constant.String text) h = refl
-other_alone c (constant.Fieldref a b) h = refl
-other_alone c (constant.Methodref a b) h = refl
-other_alone c (constant.InterfaceMethodref a b) h = refl
-other_alone c (constant.NameAndType a b) h = refl
-other_alone c (constant.MethodHandle a b) h = refl
-other_alone c (constant.MethodType descriptor) h = refl
-other_alone c (constant.InvokeDynamic a b) h = refl
+pub text_keeps : (c : ClassFile) (text : List ℕ) → constant_keeps c (constant.Utf8 text) ≡ true
+unfolding constant_keeps pool_rule
+text_keeps c text = refl

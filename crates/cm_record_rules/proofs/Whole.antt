@@ -29,6 +29,8 @@ use Rattle.cm_record_layout.proofs.{interfaces_there, count_there, fields_there,
 use Rattle.cm_record_layout.proofs.{own_there, lay_short, lay_len}
 use Rattle.cm_record_reading.specs.Reading.{class_at}
 use Rattle.cm_record_reading.proofs.{class_again}
+use Rattle.cm_record_rules.proofs.TextRuns.{texts_there}
+use Rattle.cm_record_rules.specs.Plain.{count_characters, texts}
 use Rattle.cm_record_rules.specs.Laid.{no_class, laid_class, tags_of, tags_from}
 use Rattle.cm_record_rules.specs.Laid.{constant_there, attributes_in, members_in, IsLaid}
 use Rattle.cm_record_rules.specs.Laid.{constant_of, run_bytes}
@@ -258,6 +260,18 @@ module _ (c : ClassFile) (words bytes tags : List ℕ) (laid : IsLaid words byte
   its_constant index =
       ap (λ b. constant_there words b (get_or (tags_of c) index 0) index) laid.bytes_are
       ∙ constant_at c words its_record index
+
+  pub its_texts : (len : ℕ) → len ≡ 8 * length (utf8_runs c.slots)
+      → count_characters (take len (drop (8 * get_or words 7 0) bytes))
+      ≡ count_characters (texts c.slots)
+  its_texts len size =
+      let at : get_or words 7 0 ≡ runs_at c =
+      ap (λ w. get_or w 7 0) its_record.laid ∙ word_7 c in
+      let behind = field_runs c its_record.spelled in
+      let there : drop (get_or words 7 0) words ≡ utf8_runs c.slots ++ behind =
+      (λ i. drop (at i) (its_record.laid i)) ∙ runs_there c its_record.spelled in
+      ap (λ b. count_characters (take len (drop (8 * get_or words 7 0) b))) laid.bytes_are
+      ∙ texts_there c its_record.spelled.slots words behind (get_or words 7 0) len there size
 
   pub members_near : get_or words 5 0 ≤ limit
   members_near =

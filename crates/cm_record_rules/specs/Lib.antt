@@ -1,5 +1,5 @@
 pub mod Laid
 pub mod Parts
-pub mod Judged
 pub mod Kept
 pub mod Marked
+pub mod Plain

@@ -40,6 +40,7 @@ pub(crate) fn first_words(words: &[u64], count: usize) -> &[u64]
 }
 
 /// What a directory word of this kind denotes, with the word after it.
+#[inline(always)]
 pub(crate) fn constant_of<'a>(
     bytes: &'a [u8],
     word: u64,

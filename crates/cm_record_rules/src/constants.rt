@@ -11,9 +11,9 @@ ghost use Rattle.cm_constraints.specs.Constants.{is_callable, method_reference_i
 ghost use Rattle.cm_constraints.specs.Constants.{dynamic_call_is_formed, method_type_is_formed};
 ghost use Rattle.cm_constraints.specs.Constants.{handle_has_name, dynamic_call_is_bound};
 ghost use Rattle.cm_rules.specs.Kept.{constant_keeps};
-ghost use Rattle.cm_record_rules.specs.Judged.{constant_is_right};
 
 use crate::bootstrap::bootstrap_count;
+use crate::cost::Effort;
 use crate::laid::{LaidClass, UTF8_TAG};
 use cm_class::{Bytes, Constant, Kind};
 use cm_descriptors::{begins_with, ends_in_void};
@@ -183,6 +183,7 @@ fn dynamic_call_is_bound(class: &LaidClass, methods: u16, constant: &Constant<By
 }
 
 /// Whether a constant keeps all rules except that on the form of Utf8s.
+#[inline(always)]
 #[tactic(auto, unfolding(cm_rules::specs::Kept::constant_keeps, cm_rules::specs::Fault::pool_rule))]
 fn constant_keeps(class: &LaidClass, methods: u16, constant: &Constant<Bytes>) -> bool
     requires { methods ≡ bootstrap_count class.now }
@@ -216,33 +217,56 @@ fn constant_keeps(class: &LaidClass, methods: u16, constant: &Constant<Bytes>) -
     }
 }
 
-/// Whether the constant at an index keeps all rules; true if there is none.
-#[tactic(auto, unfolding(crate::specs::Judged::constant_is_right))]
-fn is_right_at(class: &LaidClass, methods: u16, index: u16) -> bool
+/// How many bytes of names and descriptors have to be read to judge a constant.
+fn text_len(class: &LaidClass, constant: &Constant<Bytes>) -> usize {
+    match constant {
+        Constant::Class { name: utf8 } | Constant::MethodType { descriptor: utf8 } => {
+            class.utf8(*utf8).len()
+        }
+        Constant::Fieldref { name_and_type, .. }
+        | Constant::Methodref { name_and_type, .. }
+        | Constant::InterfaceMethodref { name_and_type, .. }
+        | Constant::InvokeDynamic { name_and_type, .. } => {
+            let (name, descriptor) = class.name_and_type(*name_and_type);
+            class
+                .utf8(name)
+                .len()
+                .saturating_add(class.utf8(descriptor).len())
+        }
+        _ => 0,
+    }
+}
+
+/// Whether the constant at an index keeps all rules except that on the form of Utf8s; true if there
+/// is none.
+fn is_kept_at(class: &LaidClass, methods: u16, effort: &mut Effort, index: u16) -> bool
     requires { methods ≡ bootstrap_count class.now }
-    ensures { result
-        ≡ option_map_or (constant_is_right class.now) (constant_named class.now index) true }
+    ensures { result ≡ true
+        → option_map_or (constant_keeps class.now) (constant_named class.now index) true ≡ true }
 {
     if class.tag(index) == UTF8_TAG {
-        return class.has_utf8_form(index);
+        return true;
     }
     match class.constant(index) {
-        Some(constant) => constant_keeps(class, methods, &constant),
+        Some(constant) => {
+            effort.allows(text_len(class, &constant)) && constant_keeps(class, methods, &constant)
+        }
         None => true,
     }
 }
 
-/// Whether each constant keeps all rules.
+/// Whether each constant keeps all rules except that on the form of Utf8s.
 pub(crate) fn constants_keep(class: &LaidClass) -> bool
     ensures { result ≡ true
-        → list_all (in_slot (constant_is_right class.now)) class.now.slots ≡ true }
+        → list_all (in_slot (constant_keeps class.now)) class.now.slots ≡ true }
 {
     let methods = bootstrap_count(class);
+    let mut effort = Effort::for_class(class);
     let last = class.last_index();
     let mut index = 0;
     while index < last {
         index += 1;
-        if !is_right_at(class, methods, index) {
+        if !is_kept_at(class, methods, &mut effort, index) {
             return false;
         }
     }

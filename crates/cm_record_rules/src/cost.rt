@@ -1,17 +1,42 @@
-//! Whether comparing the members of a class takes time in proportion to its record.
+//! Whether checking a class takes time in proportion to its record.
 //!
-//! Each member is compared with those before it, so the names of a class with many members and long
-//! names would be read again and again. Such a class, which no compiler writes, is left to
-//! `cm_rules`, which distinguishes members by the results of examining their names.
+//! Each member is compared with those before it, and each constant's names and descriptors are
+//! checked anew, so long ones in a class with many members or constants would be read again and
+//! again. Such a class, which no compiler writes, is left to `cm_rules`, which examines each name
+//! once.
 
 use crate::laid::LaidClass;
 use crate::members::LaidMembers;
 
-/// How many bytes may be compared for each byte of the record.
+/// How many bytes may be read for each byte of the record.
 const PASSES: usize = 32;
 
 /// How many members before one cost as much to compare as reading its own name.
 const MEMBERS_A_PASS: usize = 16;
+
+/// How many bytes of the names and descriptors of constants may still be read.
+#[derive(Debug, Drop)]
+pub(crate) struct Effort {
+    left: usize,
+}
+
+impl Effort {
+    /// What the constants of a class may take.
+    pub(crate) fn for_class(class: &LaidClass) -> Effort {
+        Effort {
+            left: PASSES.saturating_mul(class.len()),
+        }
+    }
+
+    /// Whether this many bytes more may be read.
+    pub(crate) fn allows(&mut self, bytes: usize) -> bool {
+        if bytes > self.left {
+            return false;
+        }
+        self.left -= bytes;
+        true
+    }
+}
 
 /// The cost of the names and descriptors of members, each of which is compared with those before
 /// it.

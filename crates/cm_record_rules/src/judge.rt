@@ -12,16 +12,17 @@ use crate::laid::LaidClass;
 use crate::methods::methods_keep;
 use crate::own::attributes_keep;
 use crate::scratch::fill;
-use crate::table::judgements;
+use crate::texts::utf8s_have_form;
 use crate::twins::no_twins;
 use std::alloc::Global;
 
 /// Whether the class is found to keep all rules.
-#[tactic(auto, using(crate::proofs::JudgedRules::no_fault_judged))]
+#[tactic(auto, using(crate::proofs::KeptRules::no_fault))]
 fn keeps_rules(alloc: Global, class: &LaidClass) -> bool
     ensures { result ≡ true → fault class.now ≡ None }
 {
     is_cheap(class)
+        && utf8s_have_form(class)
         && constants_keep(class)
         && this_keeps(class)
         && super_keeps(class)
@@ -47,10 +48,7 @@ pub fn judge_words(alloc: Global, scratch: &mut Vec<u8>, words: &[u64]) -> bool
     match fill(scratch, words) {
         Ok(()) => {
             let (bytes, tags) = scratch.split_at(8 * words.len());
-            match judgements(alloc, &LaidClass::new(words, bytes, tags)) {
-                Ok(table) => keeps_rules(alloc, &LaidClass::judged(words, bytes, tags, &table)),
-                Err(_) => false,
-            }
+            keeps_rules(alloc, &LaidClass::new(words, bytes, tags))
         }
         Err(_) => false,
     }

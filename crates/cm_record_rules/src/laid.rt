@@ -5,18 +5,11 @@ use crate::attributes::{LaidAttributes, words_from};
 use crate::constant::{constant_of, first_words, run_bytes, word_at};
 use crate::members::LaidMembers;
 use cm_class::{Bytes, Constant, Kind};
-use cm_descriptors::Judgement;
 use cm_record_layout::{
     DIRECTORY_AT, HEAD_CLASS, HEAD_COUNTS, HEAD_INTERFACES_AT, HEAD_MEMBERS_AT, HEAD_RUNS_AT,
     first, fourth, second, third, upper,
 };
 use std::marker::Model;
-
-fn judgement_at(table: &[Judgement], place: usize) -> Option<Judgement>
-    ensures { result ≡ slice_get table.now place }
-{
-    table.get(place).copied()
-}
 
 /// The tag of a Utf8.
 pub(crate) const UTF8_TAG: u8 = 1;
@@ -32,32 +25,27 @@ pub(crate) struct LaidClass<'a> {
     bytes: &'a [u8],
     /// The tag of each constant, by its index; 0 if there is none.
     tags: &'a [u8],
-    /// What the Utf8s are, by their indexes, as far as that was determined.
-    table: &'a [Judgement],
 }
 
 impl<'a> Model for LaidClass<'a> {
     ghost use Rattle.cm_class.specs.declared.class_file.ClassFile.{ClassFile};
     ghost use Rattle.cm_record_rules.specs.Laid.{laid_class, IsLaid};
-    ghost use Rattle.cm_record_rules.specs.Judged.{AreJudged};
 
     ghost Value = { ClassFile };
 
     ghost view = { λ c. laid_class c.words.now };
 
-    ghost invariant = { λ c. IsLaid c.words.now c.bytes.now c.tags.now
-        × AreJudged (laid_class c.words.now) c.table.now };
+    ghost invariant = { λ c. IsLaid c.words.now c.bytes.now c.tags.now };
 }
 
 impl<'a> LaidClass<'a> {
-    ghost use Rattle.std.specs.Prelude.{◌≡◌, ◌<◌, ◌^◌, length, get_or, IfSome};
-    ghost use Rattle.cm_descriptors.specs.Judgement.{judgement};
-    ghost use Rattle.cm_record_rules.specs.Judged.{AreJudged};
+    ghost use Rattle.std.specs.Prelude.{◌≡◌, ◌<◌, ◌^◌, ◌*◌, length, get_or, take};
     ghost use Rattle.cm_class.specs.Names.{constant_named, names, utf8, name_index_at};
     ghost use Rattle.cm_class.specs.Names.{descriptor_index_at};
     ghost use Rattle.cm_record_layout.specs.Packing.{word_bytes};
-    ghost use Rattle.cm_record_layout.specs.Layout.{IsRecord};
+    ghost use Rattle.cm_record_layout.specs.Layout.{IsRecord, utf8_runs};
     ghost use Rattle.cm_record_rules.specs.Laid.{laid_class, tags_of};
+    ghost use Rattle.cm_record_rules.specs.Plain.{count_characters, texts};
 
     /// The class of a record's words, with their bytes and the tags of its constants.
     pub(crate) fn new(words: &'a [u64], bytes: &'a [u8], tags: &'a [u8]) -> LaidClass<'a>
@@ -66,40 +54,7 @@ impl<'a> LaidClass<'a> {
         requires tags { tags.now ≡ tags_of (laid_class words.now) }
         ensures { result ≡ laid_class words.now }
     {
-        LaidClass {
-            words,
-            bytes,
-            tags,
-            table: &[],
-        }
-    }
-
-    /// The same class, with what its Utf8s are.
-    pub(crate) fn judged(
-        words: &'a [u64],
-        bytes: &'a [u8],
-        tags: &'a [u8],
-        table: &'a [Judgement],
-    ) -> LaidClass<'a>
-        requires record { IsRecord words.now }
-        requires bytes { bytes.now ≡ word_bytes words.now }
-        requires tags { tags.now ≡ tags_of (laid_class words.now) }
-        requires table { AreJudged (laid_class words.now) table.now }
-        ensures { result ≡ laid_class words.now }
-    {
-        LaidClass {
-            words,
-            bytes,
-            tags,
-            table,
-        }
-    }
-
-    /// What the Utf8 at an index is; `None` if that wasn't determined.
-    pub(crate) fn judgement(&self, index: u16) -> Option<Judgement>
-        ensures { IfSome result (λ found. found ≡ judgement (utf8 self.now index)) }
-    {
-        judgement_at(self.table, usize::from(index))
+        LaidClass { words, bytes, tags }
     }
 
     /// The access flags.
@@ -155,6 +110,7 @@ impl<'a> LaidClass<'a> {
 
     /// The constant that an index of the pool names; `None` at 0, after a Long or a Double, and
     /// past the end of the pool.
+    #[inline(always)]
     pub(crate) fn constant(&self, index: u16) -> Option<Constant<Bytes<'a>>>
         ensures { result ≡ constant_named self.now index }
     {
@@ -181,6 +137,30 @@ impl<'a> LaidClass<'a> {
             u64::from(upper(word)),
             usize::from(second(word)),
         )
+    }
+
+    /// The bytes of the Utf8 that an index names, with those that fill up its last word.
+    pub(crate) fn filled_utf8(&self, index: u16) -> &'a [u8]
+        ensures { take (length (utf8 self.now index)) result.now ≡ utf8 self.now index }
+    {
+        if self.tag(index) != UTF8_TAG {
+            return &[];
+        }
+        let word = word_at(self.words, DIRECTORY_AT + usize::from(index));
+        run_bytes(
+            self.bytes,
+            u64::from(upper(word)),
+            (usize::from(second(word)) + 7) / 8 * 8,
+        )
+    }
+
+    /// The bytes of the words of all Utf8s, of which there are `len`: those of the Utf8s, and zeros
+    /// that fill up the last word of each.
+    pub(crate) fn utf8_words(&self, len: usize) -> &'a [u8]
+        requires { len ≡ 8 * length (utf8_runs self.now.slots) }
+        ensures { count_characters result.now ≡ count_characters (texts self.now.slots) }
+    {
+        run_bytes(self.bytes, word_at(self.words, HEAD_RUNS_AT), len)
     }
 
     /// The indexes of the name and of the descriptor in the NameAndType that an index names; both 0

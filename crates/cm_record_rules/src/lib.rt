@@ -21,8 +21,9 @@ mod names;
 mod numbers;
 mod own;
 mod parts;
+mod plain;
 mod scratch;
-mod table;
+mod texts;
 mod twins;
 
 pub use judge::judge_words;

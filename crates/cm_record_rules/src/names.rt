@@ -1,19 +1,21 @@
 //! What an index of the constant pool names, and whether that is a name or a descriptor.
 
 use crate::laid::LaidClass;
+use crate::plain::are_plain;
 use cm_class::{Constant, Kind};
 use cm_descriptors::{
-    begins_with, has_utf8_form, is_class_name, is_field_descriptor, is_method_name,
-    is_unqualified_name, method_units,
+    begins_with, has_utf8_form, is_field_descriptor, is_method_name, is_unqualified_name, judge,
+    method_units,
 };
 
 impl<'a> LaidClass<'a> {
-    ghost use Rattle.std.specs.Prelude.{◌≡◌};
+    ghost use Rattle.std.specs.Prelude.{◌≡◌, true};
     ghost use Rattle.std.specs.Option.{option_map_or};
     ghost use Rattle.cm_class.specs.Names.{constant_named, utf8, names_utf8, class_name_index};
     ghost use Rattle.cm_class.specs.Names.{class_name, pair_index, reference_name};
     ghost use Rattle.cm_descriptors.specs.Forms.{is_class_name, is_unqualified_name};
     ghost use Rattle.cm_descriptors.specs.Forms.{is_method_name};
+    ghost use Rattle.cm_record_rules.specs.Plain.{is_plain_name};
     ghost use Rattle.cm_descriptors.specs.Forms.{has_utf8_form};
     ghost use Rattle.cm_descriptors.specs.Forms.{is_field_descriptor, is_array_descriptor};
     ghost use Rattle.cm_descriptors.specs.Forms.{is_method_descriptor, method_units};
@@ -65,14 +67,10 @@ impl<'a> LaidClass<'a> {
     }
 
     /// Whether the Utf8 at an index has the right form.
-    #[tactic(auto, unfolding(cm_descriptors::specs::Judgement::judgement))]
     pub(crate) fn has_utf8_form(&self, index: u16) -> bool
         ensures { result ≡ has_utf8_form (utf8 self.now index) }
     {
-        match self.judgement(index) {
-            Some(found) => found.utf8,
-            None => has_utf8_form(self.utf8(index)),
-        }
+        has_utf8_form(self.utf8(index))
     }
 
     /// Whether the Utf8 at an index is a class name.
@@ -80,54 +78,47 @@ impl<'a> LaidClass<'a> {
     pub(crate) fn names_class_name(&self, index: u16) -> bool
         ensures { result ≡ is_class_name (utf8 self.now index) }
     {
-        match self.judgement(index) {
-            Some(found) => found.class_name,
-            None => is_class_name(self.utf8(index)),
-        }
+        judge(self.utf8(index)).class_name
+    }
+
+    /// Whether the Utf8 at an index is found to be the name of any field or method, except the two
+    /// special ones. The bytes that fill up its last word are checked with it, so that no single
+    /// bytes are left over.
+    #[tactic(auto, using(crate::proofs::PlainNames::plain_front))]
+    fn is_plain_name(&self, index: u16) -> bool
+        ensures { result ≡ true → is_plain_name (utf8 self.now index) ≡ true }
+    {
+        !self.utf8(index).is_empty() && are_plain(self.filled_utf8(index))
     }
 
     /// Whether the Utf8 at an index is an unqualified name.
-    #[tactic(auto, unfolding(cm_descriptors::specs::Judgement::judgement))]
+    #[tactic(auto, using(crate::proofs::PlainNames::plain_is_unqualified))]
     pub(crate) fn names_unqualified_name(&self, index: u16) -> bool
         ensures { result ≡ is_unqualified_name (utf8 self.now index) }
     {
-        match self.judgement(index) {
-            Some(found) => found.unqualified_name,
-            None => is_unqualified_name(self.utf8(index)),
-        }
+        self.is_plain_name(index) || is_unqualified_name(self.utf8(index))
     }
 
     /// Whether the Utf8 at an index is a method's name.
-    #[tactic(auto, unfolding(cm_descriptors::specs::Judgement::judgement))]
+    #[tactic(auto, using(crate::proofs::PlainNames::plain_is_method))]
     pub(crate) fn names_method_name(&self, index: u16) -> bool
         ensures { result ≡ is_method_name (utf8 self.now index) }
     {
-        match self.judgement(index) {
-            Some(found) => found.method_name,
-            None => is_method_name(self.utf8(index)),
-        }
+        self.is_plain_name(index) || is_method_name(self.utf8(index))
     }
 
     /// Whether the Utf8 at an index is a field descriptor.
-    #[tactic(auto, unfolding(cm_descriptors::specs::Judgement::judgement))]
     pub(crate) fn names_field_descriptor(&self, index: u16) -> bool
         ensures { result ≡ is_field_descriptor (utf8 self.now index) }
     {
-        match self.judgement(index) {
-            Some(found) => found.field_descriptor,
-            None => is_field_descriptor(self.utf8(index)),
-        }
+        is_field_descriptor(self.utf8(index))
     }
 
     /// The units of the method descriptor at an index.
-    #[tactic(auto, unfolding(cm_descriptors::specs::Judgement::judgement))]
     pub(crate) fn method_units(&self, index: u16) -> Option<u8>
         ensures { result ≡ method_units (utf8 self.now index) }
     {
-        match self.judgement(index) {
-            Some(found) => found.method_units,
-            None => method_units(self.utf8(index)),
-        }
+        method_units(self.utf8(index))
     }
 
     /// Whether the Utf8 at an index is a method descriptor.

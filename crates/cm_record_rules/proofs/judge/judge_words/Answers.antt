@@ -1,12 +1,9 @@
-use Rattle.std.proofs.Common.{◌≡◌, ◌*◌, ◌++◌, ◌∙◌, ap, take, drop, length, sym, subst, arith}
+use Rattle.std.proofs.Common.{◌≡◌, ◌*◌, ◌++◌, ◌∙◌, ap, take, drop, length, sym, arith}
 use Rattle.std.proofs.Common.{List, ℕ}
 use Rattle.std.proofs.Common.{length-append}
 use Rattle.std.proofs.lemmas.List.{take_at, drop_at}
-use Rattle.cm_class.specs.declared.class_file.ClassFile.{ClassFile}
-use Rattle.cm_descriptors.specs.declared.judgement.Judgement.{Judgement}
 use Rattle.cm_record_layout.specs.Packing.{word_bytes}
 use Rattle.cm_rules.specs.Fault.{fault}
-use Rattle.cm_record_rules.specs.Judged.{AreJudged}
 use Rattle.cm_record_rules.specs.Laid.{laid_class, tags_of}
 use Rattle.cm_record_rules.proofs.Filled.{length-word_bytes}
 use Rattle.cm_record_rules.proofs.Whole.{class_in_is}
@@ -48,24 +45,7 @@ new-requires-clause-tags c =
     back_is c.args.words.now c.deref.result.now c.split_at.result.1.now c.split_at.ensures.back
     (c.deref.ensures.value ∙ c.in-Ok.ensures)
 
-pub judged-requires-clause-bytes : goal.judged-requires-clause-bytes
-judged-requires-clause-bytes c =
-    front_is c.args.words.now c.deref.result.now c.split_at.result.0.now c.split_at.ensures.front
-    (c.deref.ensures.value ∙ c.in-Ok.ensures)
-
-pub judged-requires-clause-tags : goal.judged-requires-clause-tags
-judged-requires-clause-tags c =
-    back_is c.args.words.now c.deref.result.now c.split_at.result.1.now c.split_at.ensures.back
-    (c.deref.ensures.value ∙ c.in-Ok.ensures)
-
-pub judged-requires-clause-table : goal.judged-requires-clause-table
-judged-requires-clause-table c =
-    let found = c.in-Ok-judgements.ensures {u = tt} in
-    subst (λ (t : List Judgement). AreJudged (laid_class c.args.words.now) t)
-    (sym c.deref-in-Ok-judgements.ensures.value)
-    (subst (λ (d : ClassFile). AreJudged d c.in-Ok-judgements.table.items) c.new.ensures found)
-
-pub returns-in-Ok-judgements : goal.returns-in-Ok-judgements
-returns-in-Ok-judgements c = λ kept d is.
-    ap fault (sym (class_in_is d c.args.words.now is) ∙ sym c.judged.ensures)
+pub returns-in-Ok : goal.returns-in-Ok
+returns-in-Ok c = λ kept d is.
+    ap fault (sym (class_in_is d c.args.words.now is) ∙ sym c.new.ensures)
     ∙ c.keeps_rules.ensures kept

@@ -13,4 +13,4 @@ returns-clause-same c =
     ∙ ((λ i. attributes_in c.self.inside.bytes.now (count i) (drop (place i)
     c.self.inside.words.now))
     ∙ its_attributes c.args.self.now c.self.inside.words.now c.self.inside.bytes.now
-    c.self.inside.tags.now c.self.invariant.0 c.self.view_is)
+    c.self.inside.tags.now c.self.invariant c.self.view_is)

@@ -5,7 +5,7 @@ use Rattle.cm_record_rules.proofs.laid.LaidClass.constant.Goals as goal
 pub returns-in-None : goal.returns-in-None
 returns-in-None c =
     its_none c.args.self.now c.self.inside.words.now c.self.inside.bytes.now
-    c.self.inside.tags.now c.self.invariant.0 c.self.view_is
+    c.self.inside.tags.now c.self.invariant c.self.view_is
     c.args.index c.from.result (c.from.ensures ∙ c.tag.ensures)
     (sym c.in-None.is ∙ c.from_tag.ensures)
 
@@ -21,6 +21,6 @@ returns-in-Some c =
     c.word_at-next.ensures ∙ ap (λ k. get_or words k 0) behind in
     ap Some c.constant_of.ensures
     ∙ its_some c.args.self.now c.self.inside.words.now c.self.inside.bytes.now
-    c.self.inside.tags.now c.self.invariant.0 c.self.view_is
+    c.self.inside.tags.now c.self.invariant c.self.view_is
     c.args.index c.from.result c.word_at-word.result c.word_at-next.result c.in-Some.kind
     (c.from.ensures ∙ c.tag.ensures) (sym c.in-Some.is ∙ c.from_tag.ensures) word next

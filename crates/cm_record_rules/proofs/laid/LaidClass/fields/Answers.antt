@@ -11,4 +11,4 @@ returns c =
     ∙ ((λ i. members_in c.self.inside.words.now c.self.inside.bytes.now (count i)
     (drop (c.word_at-at.ensures i) c.self.inside.words.now))
     ∙ its_fields c.args.self.now c.self.inside.words.now c.self.inside.bytes.now
-    c.self.inside.tags.now c.self.invariant.0 c.self.view_is)
+    c.self.inside.tags.now c.self.invariant c.self.view_is)

@@ -11,4 +11,4 @@ returns c =
     c.first_words.ensures
     ∙ ((λ i. take (count i) (rest i))
     ∙ its_interfaces c.args.self.now c.self.inside.words.now c.self.inside.bytes.now
-    c.self.inside.tags.now c.self.invariant.0 c.self.view_is)
+    c.self.inside.tags.now c.self.invariant c.self.view_is)

@@ -8,4 +8,4 @@ returns c =
     c.saturating_sub.ensures
     ∙ (ap (λ n. n - 1) (c.first.ensures ∙ ap first_of c.word_at.ensures)
     ∙ its_count c.args.self.now c.self.inside.words.now c.self.inside.bytes.now
-    c.self.inside.tags.now c.self.invariant.0 c.self.view_is)
+    c.self.inside.tags.now c.self.invariant c.self.view_is)

@@ -12,10 +12,10 @@ returns c =
     let fields = c.from.ensures ∙ (c.second.ensures ∙ ap second_of c.word_at-counts.ensures) in
     let near : get_or words 5 0 ≤ limit = members_near c.args.self.now c.self.inside.words.now
     c.self.inside.bytes.now
-    c.self.inside.tags.now c.self.invariant.0 c.self.view_is in
+    c.self.inside.tags.now c.self.invariant c.self.view_is in
     let place : c.saturating_add-at.result ≡ get_or words 5 0 + 2 * second_of (get_or words 2 0) =
     omega (arith, c.saturating_add-at.ensures, c.word_at-fields.ensures, fields, near) in
     c.new.ensures
     ∙ ((λ i. members_in words c.self.inside.bytes.now (count i) (drop (place i) words))
     ∙ its_methods c.args.self.now c.self.inside.words.now c.self.inside.bytes.now
-    c.self.inside.tags.now c.self.invariant.0 c.self.view_is)
+    c.self.inside.tags.now c.self.invariant c.self.view_is)

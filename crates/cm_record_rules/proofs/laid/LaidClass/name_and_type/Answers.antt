@@ -22,7 +22,7 @@ returns-clause-name c =
     c.word_at-word.ensures ∙ ap (λ k. get_or c.self.inside.words.now (8 + k) 0) c.from.ensures in
     c.third.ensures ∙ ap (λ o. option_map_or name_index o 0)
     (its_pair c.args.self.now c.self.inside.words.now c.self.inside.bytes.now
-    c.self.inside.tags.now c.self.invariant.0 c.self.view_is c.args.index c.tag.result
+    c.self.inside.tags.now c.self.invariant c.self.view_is c.args.index c.tag.result
     c.word_at-word.result c.tag.ensures c.if-tag-ne-NAME_AND_TYPE_TAG.false here)
 
 pub returns-clause-descriptor : goal.returns-clause-descriptor
@@ -31,5 +31,5 @@ returns-clause-descriptor c =
     c.word_at-word.ensures ∙ ap (λ k. get_or c.self.inside.words.now (8 + k) 0) c.from.ensures in
     c.fourth.ensures ∙ ap (λ o. option_map_or descriptor_index o 0)
     (its_pair c.args.self.now c.self.inside.words.now c.self.inside.bytes.now
-    c.self.inside.tags.now c.self.invariant.0 c.self.view_is c.args.index c.tag.result
+    c.self.inside.tags.now c.self.invariant c.self.view_is c.args.index c.tag.result
     c.word_at-word.result c.tag.ensures c.if-tag-ne-NAME_AND_TYPE_TAG.false here)

@@ -7,4 +7,4 @@ pub returns : goal.returns
 returns c =
     c.third.ensures ∙ (ap third_of c.word_at.ensures
     ∙ its_super c.args.self.now c.self.inside.words.now c.self.inside.bytes.now
-    c.self.inside.tags.now c.self.invariant.0 c.self.view_is)
+    c.self.inside.tags.now c.self.invariant c.self.view_is)

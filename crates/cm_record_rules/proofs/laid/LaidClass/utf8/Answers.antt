@@ -16,5 +16,5 @@ returns c =
     c.run_bytes.ensures
     ∙ ((λ i. run_bytes c.self.inside.bytes.now (at i) (len i))
     ∙ its_utf8 c.args.self.now c.self.inside.words.now c.self.inside.bytes.now
-    c.self.inside.tags.now c.self.invariant.0 c.self.view_is
+    c.self.inside.tags.now c.self.invariant c.self.view_is
     c.args.index c.tag.result c.word_at-word.result c.tag.ensures c.if-tag-ne-UTF8_TAG.false here)

@@ -1,0 +1,13 @@
+use Rattle.std.proofs.Common.{◌≡◌, ◌≤◌, ◌-◌, length, take, true}
+use Rattle.std.specs.List.{list_all}
+use Rattle.cm_constraints.specs.Constants.{in_slot, utf8_has_form}
+use Rattle.cm_record_rules.proofs.texts.have_form.Given as goal
+
+abbrev pub invariant-loop-index : goal.invariant-loop-index
+invariant-loop-index l = record {
+  within : l.index ≤ length l.class.slots;
+  so_far : list_all (in_slot utf8_has_form) (take l.index l.class.slots) ≡ true;
+}
+
+abbrev pub decreases-loop-index : goal.decreases-loop-index
+decreases-loop-index l = l.last - l.index
