@@ -1,15 +1,13 @@
 //! The command line.
 
-use crate::messages::fail;
 use clap::error::{Error, ErrorKind};
 use clap::{Arg, ArgAction, ArgMatches, Command, value_parser};
-use cm_arguments::{Number, ROOTS, SLOTS, TOP};
+use cm_arguments::{Number, Printed, ROOTS, SLOTS, TOP, WordsFault, print_text, words};
 use cm_maintenance::Status;
 use std::alloc::{AllocError, Global};
 use std::num::NonZeroUsize;
 use std::rt::Env;
 use std::thread::{Threads, available_parallelism};
-use std::{env, io};
 
 const FILE: &str = "FILE";
 
@@ -32,9 +30,18 @@ pub struct Wanted {
     pub slots: Option<u32>,
 }
 
-/// What the command line asks for: to import what the paths hold into a loader of a file's cache.
+/// What the command line asks for.
 #[derive(Debug, Drop)]
-pub struct Request {
+pub enum Request {
+    /// To import classes.
+    Import(Import),
+    /// Nothing more: the help or a usage text was printed. The status to end with.
+    Printed(Status),
+}
+
+/// To import what the paths hold into a loader of a file's cache.
+#[derive(Debug, Drop)]
+pub struct Import {
     pub file: String,
     pub loader: String,
     pub paths: Vec<String>,
@@ -99,60 +106,32 @@ fn whole_command<'a>(alloc: Global) -> Result<Command<'a>, AllocError> {
         .arg(workers)
 }
 
-/// The words of the command line; `None` if one of them isn't UTF-8.
-fn words(rt: &(impl Env + AllocGlobal)) -> io::Result<Option<Vec<String>>> {
-    match env::args(rt) {
-        Ok(words) => Ok(Some(words.collect(rt.alloc())?)),
-        Err(error) if error.kind() == io::ErrorKind::InvalidData => Ok(None),
-        Err(error) => Err(error),
+/// Prints the help, or what is wrong with the words.
+fn print_instead(rt: &(impl Print + Eprint), text: &Error) -> Result<Request, WordsFault> {
+    match print_text(rt, text)? {
+        Printed::Help => Ok(Request::Printed(Status::Done)),
+        Printed::Usage => Ok(Request::Printed(Status::WrongWords)),
     }
 }
 
-/// Prints the help or what is wrong with the words, and gives the status.
-fn print_text(rt: &(impl Print + Eprint), text: &Error) -> Status {
-    if text.kind() == ErrorKind::OutOfMemory {
-        return fail(rt, "out of memory");
-    }
-    let printed = text.print(rt);
-    if text.use_stderr() {
-        Status::WrongWords
-    } else if printed.is_ok() {
-        Status::Done
-    } else {
-        fail(rt, "the output failed")
-    }
-}
-
-/// Reads the command line. If it asks for nothing that can be done, says so, and gives the status.
-pub fn read_request<R>(rt: &R) -> Result<Request, Status>
+/// Reads the command line; prints the help, or what is wrong with it.
+pub fn read_words<R>(rt: &R) -> Result<Request, WordsFault>
 where
     R: Env + Print + Eprint + AllocGlobal + Threads,
 {
-    let alloc = rt.alloc();
-    let Ok(mut command) = whole_command(alloc) else {
-        return Err(fail(rt, "out of memory"));
-    };
-    let words = match words(rt) {
-        Ok(Some(words)) => words,
-        Ok(None) => {
-            return match command.error(ErrorKind::ValueValidation, "an argument is not UTF-8") {
-                Ok(text) => Err(print_text(rt, &text)),
-                Err(_) => Err(fail(rt, "out of memory")),
-            };
-        }
-        Err(error) => return Err(fail(rt, error)),
+    let mut command = whole_command(rt.alloc())?;
+    let Some(words) = words(rt)? else {
+        let text = command.error(ErrorKind::ValueValidation, "an argument is not UTF-8")?;
+        return print_instead(rt, &text);
     };
     match command.try_get_matches_from(words.as_slice()) {
-        Ok(matches) => match request_of(rt, &matches) {
-            Ok(request) => Ok(request),
-            Err(_) => Err(fail(rt, "out of memory")),
-        },
-        Err(text) => Err(print_text(rt, &text)),
+        Ok(matches) => Ok(Request::Import(import_of(rt, &matches)?)),
+        Err(text) => print_instead(rt, &text),
     }
 }
 
 /// What words ask for that `clap` took.
-fn request_of<R>(rt: &R, given: &ArgMatches<'_>) -> Result<Request, AllocError>
+fn import_of<R>(rt: &R, given: &ArgMatches<'_>) -> Result<Import, AllocError>
 where
     R: AllocGlobal + Threads,
 {
@@ -161,7 +140,7 @@ where
     for path in given.get_strs(PATHS).unwrap_or(&[]) {
         paths.push(String::from_str(alloc, path)?)?;
     }
-    Ok(Request {
+    Ok(Import {
         file: String::from_str(alloc, given.get_str(FILE).unwrap_or(""))?,
         loader: String::from_str(alloc, given.get_str(LOADER).unwrap_or(""))?,
         paths,

@@ -14,7 +14,7 @@ mod report;
 mod sizes;
 mod version;
 
-use crate::arguments::{Request, read_request};
+use crate::arguments::{Import, Request, read_words};
 use crate::feed::FoundClasses;
 use crate::files::{find_all, format_new, open_disk, tell_failure};
 use crate::messages::{fail, say};
@@ -43,9 +43,10 @@ where
     R: Env + Print + Eprint + Files<File = File> + AllocGlobal + Clock,
     R: Threads + Copy + Sync,
 {
-    let request = match read_request(rt) {
-        Ok(request) => request,
-        Err(status) => return status,
+    let request = match read_words(rt) {
+        Ok(Request::Import(request)) => request,
+        Ok(Request::Printed(status)) => return status,
+        Err(fault) => return fail(rt, fault),
     };
     let Ok(Found { places, unsearched }) = find_all(rt, &request.paths) else {
         return fail(rt, "out of memory");
@@ -76,7 +77,7 @@ fn bytes_of(places: &[Place]) -> u64 {
 }
 
 /// Imports what was found, and says what came of it.
-fn import_into<R>(rt: &R, request: &Request, feed: FoundClasses<'_, R>, disk: FileDisk) -> Status
+fn import_into<R>(rt: &R, request: &Import, feed: FoundClasses<'_, R>, disk: FileDisk) -> Status
 where
     R: Print + Eprint + Files<File = File> + AllocGlobal + Clock + Threads + Copy + Sync,
 {

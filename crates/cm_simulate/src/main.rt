@@ -6,7 +6,8 @@
 
 mod command;
 
-use crate::command::{Request, WordsFault, read_words};
+use crate::command::{Request, read_words};
+use cm_arguments::WordsFault;
 use cm_disk::SimDisk;
 use cm_events::{SimulateFault, SimulationFault, bytes_of, simulate};
 use std::fs::{self, File, Files};
