@@ -12,6 +12,6 @@ mod simulation;
 mod text;
 
 pub use fault::SimulationFault;
-pub use running::{NoBytes, SimulateFault, Simulated, bytes_of, simulate};
+pub use running::{SimulateFault, Simulated, bytes_of, simulate};
 pub use simulation::{Simulation, Turn, read_simulation};
 pub use text::answer_lines;

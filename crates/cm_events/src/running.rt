@@ -7,7 +7,7 @@ ghost use Rattle.cm_events.specs.Simulated.{IsSimulated, SimulationStops};
 use crate::fault::SimulationFault;
 use crate::simulation::{Simulation, read_simulation};
 use crate::text::answer_lines;
-use cm_disk::{DeviceFault, Disk, SimDisk};
+use cm_disk::{Disk, SimDisk};
 use cm_verdict::OpenFault;
 use cm_world::World;
 use std::alloc::{AllocError, Global};
@@ -61,31 +61,14 @@ pub fn simulate(alloc: Global, text: &[u8]) -> Result<Simulated, SimulateFault>
     }
 }
 
-/// Why the bytes of a disk in memory can't be returned: an allocation failed.
-#[derive(Clone, Copy, Debug, PartialEq, Eq, Error)]
-#[error("out of memory")]
-pub struct NoBytes;
-
-impl From<DeviceFault> for NoBytes {
-    fn from(_fault: DeviceFault) -> NoBytes {
-        NoBytes
-    }
-}
-
-impl From<AllocError> for NoBytes {
-    fn from(_error: AllocError) -> NoBytes {
-        NoBytes
-    }
-}
-
-/// The bytes that a disk has.
-pub fn bytes_of(alloc: Global, disk: SimDisk) -> Result<Vec<u8>, NoBytes>
+/// The bytes that a disk has. It is in memory, so only an allocation fails.
+pub fn bytes_of(alloc: Global, disk: SimDisk) -> Result<Vec<u8>, AllocError>
     ensures { IfOk result (λ bytes. bytes.items ≡ sim_contents disk) }
 {
     let mut disk = disk;
     disk.disarm();
-    let len = disk.len()?;
+    let len = disk.len().map_err(|_| AllocError)?;
     let mut bytes = Vec::from_elem(alloc, 0u8, len as usize)?;
-    disk.read(0, &mut bytes)?;
+    disk.read(0, &mut bytes).map_err(|_| AllocError)?;
     Ok(bytes)
 }
