@@ -3,8 +3,8 @@
 use crate::holding::class;
 use crate::running::formatted;
 use cm_library::{
-    Cache, Counts, CreateError, Finished, Geometry, Naming, NotRun, OpenError, OpenFault, Pass,
-    SimDisk, Work, create_file, format, open_file, with_cache,
+    Cache, Counts, CreateError, FileFault, Finished, Geometry, Naming, NotRun, OpenError,
+    OpenFault, Pass, SimDisk, Work, create_file, format, open_file, with_cache,
 };
 use std::alloc::Global;
 use std::fs;
@@ -64,11 +64,11 @@ fn a_disk_without_a_cache_is_handed_back_with_the_work(rt: HostRuntime) -> Resul
             } = error;
             assert_eq!(rt;
                 (fault, disk.is_some(), loader),
-                (OpenFault::NotACache, true, b'x')
+                (OpenFault::File(FileFault::NotACache), true, b'x')
             );
             assert_eq!(rt;
                 text.as_str(),
-                "not a cache NotRun { fault: NotACache, .. }"
+                "not a cache NotRun { fault: File(NotACache), .. }"
             );
             Ok(())
         }

@@ -1,5 +1,6 @@
 -- The numbers that C is told, and what they say.
 use Rattle.std.specs.Prelude.{ℕ, ℤ, pos, Result, Ok, Err}
+use Rattle.cm_verdict.specs.declared.fault.FileFault.TheVariants.{NotACache, Damaged}
 use Rattle.cm_verdict.specs.declared.fault.OpenFault.{OpenFault}
 use Rattle.cm_verdict.specs.declared.fault.OpenFault.TheVariants as fault
 use Rattle.cm_commands.specs.declared.refusal.Refusal.{Refusal}
@@ -35,7 +36,7 @@ stored_told before (Err broken) = before
 -- ---- opening
 
 abbrev pub open_status : OpenFault → ℤ
-open_status fault.NotACache = pos 21
-open_status (fault.Damaged what slot) = pos 22
+open_status (fault.File NotACache) = pos 21
+open_status (fault.File (Damaged what slot)) = pos 22
 open_status fault.Device = pos 26
 open_status fault.NoMemory = pos 9

@@ -5,7 +5,7 @@ ghost use Rattle.cm_commands.specs.Refusals.{refusal_number};
 ghost use Rattle.cm_core.specs.Status.{open_status};
 
 use cm_commands::Refusal;
-use cm_verdict::OpenFault;
+use cm_verdict::{FileFault, OpenFault};
 
 /// It is done.
 pub const OK: i32 = 0;
@@ -56,8 +56,8 @@ pub(crate) fn of_open_fault(fault: OpenFault, damage: &mut Damage) -> i32
     ensures { result ≡ open_status fault }
 {
     match fault {
-        OpenFault::NotACache => NOT_A_CACHE,
-        OpenFault::Damaged { what, slot } => {
+        OpenFault::File(FileFault::NotACache) => NOT_A_CACHE,
+        OpenFault::File(FileFault::Damaged { what, slot }) => {
             damage.what = u32::from(what.number());
             damage.slot = slot;
             DAMAGED

@@ -7,7 +7,7 @@ use cm_disk::{Disk, SimDisk};
 use cm_importing::{ImportFault, import};
 use cm_pool::Geometry;
 use cm_recover::format;
-use cm_verdict::OpenFault;
+use cm_verdict::{FileFault, OpenFault};
 use std::alloc::Global;
 use std::test::*;
 use std::thread::Threads;
@@ -96,7 +96,13 @@ fn an_import_that_cannot_begin_asks_for_no_class(rt: HostRuntime) -> Result<(), 
     let refused = left_by(&rt, b"a b", new_disk(alloc)?)?;
     assert_eq!(rt; refused, (Err(ImportFault::Loader(Refusal::BadName)), 2));
     let unopened = left_by(&rt, b"app", SimDisk::new(alloc))?;
-    assert_eq!(rt; unopened, (Err(ImportFault::Open(OpenFault::NotACache)), 2));
+    assert_eq!(rt;
+        unopened,
+        (
+            Err(ImportFault::Open(OpenFault::File(FileFault::NotACache))),
+            2
+        )
+    );
     Ok(())
 }
 

@@ -15,7 +15,7 @@ pub use cm_pool::Geometry;
 pub use cm_record::Record;
 pub use cm_recover::{FormatFault, NotOpened, format};
 pub use cm_region_file::{open as open_file, open_in_threads as open_file_in_threads};
-pub use cm_verdict::OpenFault;
+pub use cm_verdict::{Damage, FileFault, OpenFault};
 pub use counts::Counts;
 pub use opening::{Opened, open};
 pub use running::{Finished, NotRun, NotStarted, with_cache, with_threads};

@@ -9,8 +9,7 @@ use Rattle.cm_maintenance.specs.declared.status.Status.TheVariants.{Done}
 use Rattle.cm_maintenance.specs.Reporting.{Writes, fault_status}
 
 not_done : (f : OpenFault) → fault_status f ≡ Done → ⊥
-not_done open_fault.NotACache e = cc
-not_done (open_fault.Damaged what slot) e = cc
+not_done (open_fault.File fault) e = cc
 not_done open_fault.Device e = cc
 not_done open_fault.NoMemory e = cc
 

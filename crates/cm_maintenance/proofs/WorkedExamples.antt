@@ -4,6 +4,7 @@ use Rattle.std.specs.Prelude.{codes}
 use Rattle.std.specs.Fmt.{digits}
 use Rattle.cm_pool.specs.declared.place.Place.{Place}
 use Rattle.cm_verdict.specs.declared.fault.Damage.TheVariants as damage
+use Rattle.cm_verdict.specs.declared.fault.FileFault.TheVariants.{NotACache, Damaged}
 use Rattle.cm_verdict.specs.declared.fault.OpenFault.TheVariants as open_fault
 use Rattle.cm_maintenance.specs.Texts.{report_line, loader_line, class_line, list_lines, fault_line}
 
@@ -50,15 +51,15 @@ escaped_name = refl
 
 -- ---- of files that aren't opened
 
-no_cache : fault_line open_fault.NotACache ≡ codes "not a cache" ++ 10 ∷ []
+no_cache : fault_line (open_fault.File NotACache) ≡ codes "not a cache" ++ 10 ∷ []
 no_cache = refl
 
-bad_superblock : fault_line (open_fault.Damaged damage.Superblock 0)
+bad_superblock : fault_line (open_fault.File (Damaged damage.Superblock 0))
     ≡ codes "damaged 1 0" ++ 10 ∷ []
 unfolding digits
 bad_superblock = refl
 
-class_twice : fault_line (open_fault.Damaged damage.ClassTwice 261)
+class_twice : fault_line (open_fault.File (Damaged damage.ClassTwice 261))
     ≡ codes "damaged 9 261" ++ 10 ∷ []
 unfolding digits
 class_twice = refl

@@ -36,8 +36,7 @@ disk_left (Err not_reported) = not_reported.disk
 
 -- refused if the file has a fault, failed if the device or an allocation did
 abbrev pub fault_status : OpenFault → Status
-fault_status open_fault.NotACache = status.Refused
-fault_status (open_fault.Damaged what slot) = status.Refused
+fault_status (open_fault.File fault) = status.Refused
 fault_status open_fault.Device = status.Failed
 fault_status open_fault.NoMemory = status.Failed
 

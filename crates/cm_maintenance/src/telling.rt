@@ -8,7 +8,7 @@ use crate::fault::NotReported;
 use crate::status::Status;
 use crate::texts::line_of_fault;
 use cm_lines::{LineFault, write_line};
-use cm_verdict::OpenFault;
+use cm_verdict::{FileFault, OpenFault};
 use std::alloc::Global;
 use std::io::Write;
 
@@ -35,8 +35,8 @@ pub fn tell_fault<W: Write>(
         (fault_status fault) result }
 {
     match fault {
-        OpenFault::NotACache => tell(writer, b"not a cache\n", Status::Refused),
-        OpenFault::Damaged { .. } => match line_of_fault(alloc, fault) {
+        OpenFault::File(FileFault::NotACache) => tell(writer, b"not a cache\n", Status::Refused),
+        OpenFault::File(FileFault::Damaged { .. }) => match line_of_fault(alloc, fault) {
             Ok(line) => tell(writer, &line, Status::Refused),
             Err(_) => Err(LineFault::NoMemory),
         },

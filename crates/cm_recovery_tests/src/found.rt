@@ -45,14 +45,7 @@ impl<S: Copy> Found<S> {
 
     /// The result for a disk.
     pub fn on_disk(&self) -> Result<S, OpenFault> {
-        match self {
-            Found::Sound(summary) => Ok(*summary),
-            Found::NotACache => Err(OpenFault::NotACache),
-            Found::Damaged(what, slot) => Err(OpenFault::Damaged {
-                what: *what,
-                slot: *slot,
-            }),
-        }
+        self.in_bytes().map_err(OpenFault::File)
     }
 }
 

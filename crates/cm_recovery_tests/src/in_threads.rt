@@ -6,7 +6,7 @@ use crate::file_samples::ROOTS_AT;
 use crate::stored_calls::Call::{Define, Loader};
 use crate::stored_calls::{Call, disk_after};
 use cm_recover::{NotOpened, open, open_in_threads};
-use cm_verdict::{Damage, OpenFault};
+use cm_verdict::{Damage, FileFault, OpenFault};
 use std::alloc::Global;
 use std::test::*;
 use std::thread::Threads;
@@ -36,10 +36,10 @@ type Told = Result<(u64, usize), OpenFault>;
 const WHOLE: Told = Ok((9, 8));
 
 fn damaged(slot: u32) -> Told {
-    Err(OpenFault::Damaged {
+    Err(OpenFault::File(FileFault::Damaged {
         what: Damage::Record,
         slot,
-    })
+    }))
 }
 
 /// The records that are damaged, from 0, and what is then told.

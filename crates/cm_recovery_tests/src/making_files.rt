@@ -4,11 +4,11 @@ use crate::found::{EMPTY, Summary, find_in};
 use cm_disk::{Choice, DeviceFault, Disk, FuseDisk, SimDisk};
 use cm_pool::Geometry;
 use cm_recover::{FormatFault, format};
-use cm_verdict::OpenFault;
+use cm_verdict::{FileFault, OpenFault};
 use std::alloc::Global;
 use std::test::*;
 
-const NONE: Result<Summary, OpenFault> = Err(OpenFault::NotACache);
+const NONE: Result<Summary, OpenFault> = Err(OpenFault::File(FileFault::NotACache));
 
 // Makes a disk a file of these sizes. Returns whether that succeeds, its length, its syncs, and
 // what is found in it.

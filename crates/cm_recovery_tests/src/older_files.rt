@@ -6,7 +6,7 @@ use cm_disk::{Choice, FuseDisk, SimDisk};
 use cm_maintenance::check;
 use cm_pool::Geometry;
 use cm_recover::{NotOpened, format, open};
-use cm_verdict::{Damage, OpenFault};
+use cm_verdict::{Damage, FileFault, OpenFault};
 use std::alloc::Global;
 use std::test::*;
 
@@ -160,19 +160,19 @@ fn check_with(alloc: Global, version: u8, at: usize, byte: u8) -> Result<Option<
 #[test]
 fn an_older_file_keeps_its_rules(rt: HostRuntime) -> Result<(), Fail> {
     let alloc = rt.alloc();
-    let head = Some(OpenFault::Damaged {
+    let head = Some(OpenFault::File(FileFault::Damaged {
         what: Damage::Head,
         slot: 0,
-    });
+    }));
     // its epoch is at most one above its base
     assert_eq!(rt; check_with(alloc, 1, HALF_0 + 8, 1)?, None);
     assert_eq!(rt; check_with(alloc, 1, HALF_0 + 8, 2)?, head);
     assert_eq!(rt; check_with(alloc, 2, HALF_0 + 8, 2)?, None);
     // a name of 49 bytes isn't allowed
-    let slot = Some(OpenFault::Damaged {
+    let slot = Some(OpenFault::File(FileFault::Damaged {
         what: Damage::Slot,
         slot: 2,
-    });
+    }));
     assert_eq!(rt; check_with(alloc, 1, HALF_0 + 2 * 64 + 2, 49)?, slot);
     Ok(())
 }

@@ -220,7 +220,6 @@ is_outside in_verdict sizes k contents some fault told = by_fault fault told
         some.stands.stands).1.ok
 
     by_fault : (f : OpenFault) → IsFaultIn f (verdict contents) → IsOutside f
-    by_fault open_fault.NotACache wrong = not_both (verdict contents) _ _ right wrong
-    by_fault (open_fault.Damaged what slot) wrong = not_both (verdict contents) _ _ right wrong
+    by_fault (open_fault.File fault) wrong = not_both (verdict contents) _ _ right wrong
     by_fault open_fault.Device wrong = tt
     by_fault open_fault.NoMemory wrong = tt

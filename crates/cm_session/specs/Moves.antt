@@ -166,8 +166,7 @@ pub record Reopening (sizes : Sizes) (k : Machine) (contents : List ℕ) (next :
 -- a file that stands for some of the commands isn't opened only because of the device or a failed
 -- allocation
 abbrev pub IsOutside : OpenFault → Type 0
-IsOutside open_fault.NotACache = ⊥
-IsOutside (open_fault.Damaged what slot) = ⊥
+IsOutside (open_fault.File fault) = ⊥
 IsOutside open_fault.Device = Unit {0}
 IsOutside open_fault.NoMemory = Unit {0}
 

@@ -3,7 +3,7 @@
 use crate::device::make;
 use cm_pool::Geometry;
 use cm_stepped::{Broken, BytesFault, CallList, open_bytes};
-use cm_verdict::OpenFault;
+use cm_verdict::{FileFault, OpenFault};
 use std::alloc::Global;
 use std::test::*;
 
@@ -28,7 +28,7 @@ fn a_listed_format_makes_a_cache(rt: HostRuntime) -> Result<(), Fail> {
     assert!(rt; open_bytes(rt.alloc(), &file).is_ok());
     let none = Vec::new(rt.alloc());
     let fault = open_bytes(rt.alloc(), &none).map(|_session| ());
-    assert!(rt; fault == Err(BytesFault::Fault(OpenFault::NotACache)));
+    assert!(rt; fault == Err(BytesFault::Fault(OpenFault::File(FileFault::NotACache))));
     Ok(())
 }
 

@@ -3,7 +3,7 @@
 use crate::disks::{has_one_loader, new_disk, new_disk_of, replies};
 use cm_disk::{Disk, FuseDisk, SimDisk};
 use cm_tool::{ApplyFault, Outcome, apply_script};
-use cm_verdict::OpenFault;
+use cm_verdict::{FileFault, OpenFault};
 use std::alloc::Global;
 use std::io::BufReader;
 use std::test::*;
@@ -187,7 +187,10 @@ fn a_disk_without_a_cache_is_refused(rt: HostRuntime) -> Result<(), Fail> {
     let alloc = rt.alloc();
     let (written, outcome, mut disk) = replies(alloc, b"loader a\n", SimDisk::new(alloc));
     let left = (written.len(), disk.len());
-    assert_eq!(rt; outcome, Err(ApplyFault::Open(OpenFault::NotACache)));
+    assert_eq!(rt;
+        outcome,
+        Err(ApplyFault::Open(OpenFault::File(FileFault::NotACache)))
+    );
     assert_eq!(rt; left, (0, Ok(0)));
     Ok(())
 }

@@ -14,7 +14,7 @@ use Rattle.cm_layout.specs.Framing.{part, other_half}
 use Rattle.cm_layout.specs.Slots.{open_gate}
 use Rattle.cm_verdict.specs.declared.counting.Counting.{Counting}
 use Rattle.cm_verdict.specs.declared.fault.FileFault.{FileFault}
-use Rattle.cm_verdict.specs.declared.fault.FileFault.TheVariants.{NotACache, Damaged}
+use Rattle.cm_verdict.specs.declared.fault.FileFault.TheVariants.{NotACache}
 use Rattle.cm_verdict.specs.Faults.{◌>>=◌}
 use Rattle.cm_verdict.specs.Walk.{Walked}
 use Rattle.cm_verdict.specs.Found.{counting_half, walk_through, found_walked, half_in, head_in}
@@ -23,14 +23,8 @@ use Rattle.cm_verdict.proofs.Parts.{begun_with, half_within, part_long}
 use Rattle.cm_verdict.specs.declared.fault.OpenFault.{OpenFault}
 use Rattle.cm_verdict.specs.declared.fault.OpenFault.TheVariants as open_fault
 use Rattle.cm_verdict.specs.declared.reading.FoundFile.{FoundFile}
-use Rattle.cm_verdict.specs.Opening.{fault_of, IsFaultIn, IsAnswer, half_of, found_in_halves}
+use Rattle.cm_verdict.specs.Opening.{IsFaultIn, IsAnswer, half_of, found_in_halves}
 use Rattle.cm_verdict.specs.Opening.{found_of, other_is_open}
-
--- a fault of the verdict is returned unchanged
-pub fault_answers : {B : Type 0} (f : FileFault) (verdict : Result B FileFault) → verdict ≡ Err f
-    → IsFaultIn (fault_of f) verdict
-fault_answers NotACache verdict e = e
-fault_answers (Damaged what slot) verdict e = e
 
 -- ---- in two halves
 
@@ -101,9 +95,7 @@ short_file long block short = rw (lt-leb 4096 long short) refl
 pub sizes_fault : (e : OpenFault) (contents : List ℕ)
     → IsFaultIn e (sizes_found (length contents) (take 4096 contents))
     → IsFaultIn e (found_in contents)
-sizes_fault open_fault.NotACache contents told = no_sizes_found contents NotACache told
-sizes_fault (open_fault.Damaged what slot) contents told =
-    no_sizes_found contents (Damaged what slot) told
+sizes_fault (open_fault.File f) contents told = no_sizes_found contents f told
 sizes_fault open_fault.Device contents told = tt
 sizes_fault open_fault.NoMemory contents told = tt
 

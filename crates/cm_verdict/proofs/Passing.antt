@@ -120,11 +120,9 @@ same_fault {A} {B} f g e =
 carried : {A B : Type 0} (e : OpenFault) (slot : ℕ) (x : Result A Damage) (y : Result B FileFault)
     → ((d : Damage) → x ≡ Err d → y ≡ Err (Damaged d slot)) → IsFaultIn e (at_slot slot x)
     → IsFaultIn e y
-carried open_fault.NotACache slot (Ok a) y h told = absurd (cc)
-carried open_fault.NotACache slot (Err d) y h told = absurd (cc)
-carried (open_fault.Damaged what at) slot (Ok a) y h told = absurd (cc)
-carried {A} {B} (open_fault.Damaged what at) slot (Err d) y h told =
-    h d refl ∙ same_fault {A = A} {B = B} (Damaged d slot) (Damaged what at) told
+carried (open_fault.File f) slot (Ok a) y h told = absurd (cc)
+carried {A} {B} (open_fault.File f) slot (Err d) y h told =
+    h d refl ∙ same_fault {A = A} {B = B} (Damaged d slot) f told
 carried open_fault.Device slot x y h told = tt
 carried open_fault.NoMemory slot x y h told = tt
 

@@ -21,18 +21,15 @@ use Rattle.cm_verdict.specs.Standing.{FollowsVerdict, if_class, class_in_place}
 -- a fault is passed on
 pub through : {A B : Type 0} (e : OpenFault) (x : Result A FileFault) (f : A → Result B FileFault)
     → IsFaultIn e x → IsFaultIn e (x >>= f)
-through open_fault.NotACache x f told = ap (λ r. r >>= f) told
-through (open_fault.Damaged what slot) x f told = ap (λ r. r >>= f) told
+through (open_fault.File fault) x f told = ap (λ r. r >>= f) told
 through open_fault.Device x f told = tt
 through open_fault.NoMemory x f told = tt
 
 -- the verdict has no faults of the device or of allocations
 pub quiet_fault : {B : Type 0} (e : OpenFault) (x : Result B FileFault)
     → (e ≡ open_fault.Device) ⊎ (e ≡ open_fault.NoMemory) → IsFaultIn e x
-quiet_fault open_fault.NotACache x (inl e) = absurd (cc)
-quiet_fault open_fault.NotACache x (inr e) = absurd (cc)
-quiet_fault (open_fault.Damaged what slot) x (inl e) = absurd (cc)
-quiet_fault (open_fault.Damaged what slot) x (inr e) = absurd (cc)
+quiet_fault (open_fault.File fault) x (inl e) = absurd (cc)
+quiet_fault (open_fault.File fault) x (inr e) = absurd (cc)
 quiet_fault open_fault.Device x h = tt
 quiet_fault open_fault.NoMemory x h = tt
 

@@ -8,7 +8,6 @@ use Rattle.cm_layout.specs.Offsets.{slot_size, half_at}
 use Rattle.cm_layout.specs.Slots.{open_gate}
 use Rattle.cm_layout.specs.Framing.{other_half}
 use Rattle.cm_verdict.specs.declared.fault.FileFault.{FileFault}
-use Rattle.cm_verdict.specs.declared.fault.FileFault.TheVariants.{NotACache, Damaged}
 use Rattle.cm_verdict.specs.Faults.{◌>>=◌}
 use Rattle.cm_verdict.specs.Found.{Found, counting_half, walk_through, found_walked}
 use Rattle.cm_verdict.specs.Walking.{walked}
@@ -16,14 +15,9 @@ use Rattle.cm_verdict.specs.declared.fault.OpenFault.{OpenFault}
 use Rattle.cm_verdict.specs.declared.fault.OpenFault.TheVariants as open_fault
 use Rattle.cm_verdict.specs.declared.reading.FoundFile.{FoundFile}
 
-abbrev pub fault_of : FileFault → OpenFault
-fault_of NotACache = open_fault.NotACache
-fault_of (Damaged what slot) = open_fault.Damaged what slot
-
 -- the fault is that of the verdict, or the device or an allocation failed
 abbrev pub IsFaultIn : {B : Type 0} → OpenFault → Result B FileFault → Type 0
-IsFaultIn open_fault.NotACache verdict = verdict ≡ Err NotACache
-IsFaultIn (open_fault.Damaged what slot) verdict = verdict ≡ Err (Damaged what slot)
+IsFaultIn (open_fault.File fault) verdict = verdict ≡ Err fault
 IsFaultIn open_fault.Device verdict = Unit {0}
 IsFaultIn open_fault.NoMemory verdict = Unit {0}
 

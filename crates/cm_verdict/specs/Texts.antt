@@ -13,7 +13,6 @@ file_fault_text (Damaged what slot) =
     codes "damaged " ++ decimal (damage_number what) ++ codes " " ++ decimal slot
 
 abbrev pub open_fault_text : OpenFault → List ℕ
-open_fault_text open_fault.NotACache = file_fault_text NotACache
-open_fault_text (open_fault.Damaged what slot) = file_fault_text (Damaged what slot)
+open_fault_text (open_fault.File fault) = file_fault_text fault
 open_fault_text open_fault.Device = codes "device"
 open_fault_text open_fault.NoMemory = codes "memory"

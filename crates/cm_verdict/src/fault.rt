@@ -3,7 +3,6 @@
 ghost use Rattle.std.specs.Prelude.{◌≡◌, Some};
 ghost use Rattle.cm_verdict.specs.declared.fault.OpenFault.TheVariants as open_fault;
 ghost use Rattle.cm_verdict.specs.Faults.{damage_number};
-ghost use Rattle.cm_verdict.specs.Opening.{fault_of};
 ghost use Rattle.cm_verdict.specs.Texts.{file_fault_text, open_fault_text};
 
 use cm_disk::DeviceFault;
@@ -87,11 +86,8 @@ impl Error for FileFault {}
 /// Why a file isn't opened. What the file stands for is unchanged.
 #[derive(Clone, Copy, Debug, PartialEq, Eq)]
 pub enum OpenFault {
-    /// The file is shorter than a superblock, or its first bytes or its superblock's gate differ
-    /// from those of a cache.
-    NotACache,
-    /// The file's first damage, with the slot where it was found, as in [`FileFault`].
-    Damaged { what: Damage, slot: u32 },
+    /// It stands for no cache.
+    File(FileFault),
     /// The device failed.
     Device,
     /// An allocation failed.
@@ -102,9 +98,8 @@ impl Display for OpenFault {
     ghost output = { λ fault. Some (open_fault_text fault) };
 
     fn fmt<W: fmt::Write>(&self, f: &mut Formatter<W>) -> fmt::Result {
-        match *self {
-            OpenFault::NotACache => FileFault::NotACache.fmt(f),
-            OpenFault::Damaged { what, slot } => FileFault::Damaged { what, slot }.fmt(f),
+        match self {
+            OpenFault::File(fault) => fault.fmt(f),
             OpenFault::Device => write!(f, "device"),
             OpenFault::NoMemory => write!(f, "memory"),
         }
@@ -114,13 +109,10 @@ impl Display for OpenFault {
 impl Error for OpenFault {}
 
 impl From<FileFault> for OpenFault {
-    ghost from_gives = { λ fault e. e ≡ fault_of fault };
+    ghost from_gives = { λ fault e. e ≡ open_fault.File fault };
 
     fn from(fault: FileFault) -> OpenFault {
-        match fault {
-            FileFault::NotACache => OpenFault::NotACache,
-            FileFault::Damaged { what, slot } => OpenFault::Damaged { what, slot },
-        }
+        OpenFault::File(fault)
     }
 }
 

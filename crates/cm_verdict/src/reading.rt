@@ -12,7 +12,7 @@ ghost use Rattle.cm_verdict.specs.Opening.{IsAnswer, found_in_halves, found_of, 
 ghost use Rattle.cm_verdict.specs.Opening.{other_is_open};
 
 use crate::counting::{Counting, counting_half};
-use crate::fault::OpenFault;
+use crate::fault::{FileFault, OpenFault};
 use crate::superblock::find_sizes;
 use crate::walk::{HalfWalk, walk_through};
 use cm_disk::Disk;
@@ -64,7 +64,7 @@ fn read_sizes<D: Disk>(alloc: Global, disk: &mut D) -> Result<Geometry, OpenFaul
 {
     let long = disk.len()?;
     if long < SUPERBLOCK_BYTES as u64 {
-        return Err(OpenFault::NotACache);
+        return Err(OpenFault::File(FileFault::NotACache));
     }
     let block = read_part(alloc, disk, 0, SUPERBLOCK_BYTES)?;
     let geometry = find_sizes(long, &block)?;

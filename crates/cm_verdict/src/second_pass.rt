@@ -18,7 +18,7 @@ ghost use Rattle.cm_verdict.specs.Standing.{IsRecorded, AreRecorded, bare_of, Ma
 ghost use Rattle.cm_verdict.specs.Standing.{row_found};
 
 use crate::defined_at::DefinedAt;
-use crate::fault::{Damage, OpenFault};
+use crate::fault::{Damage, FileFault, OpenFault};
 use crate::row_record::RowRecord;
 use crate::shared_rows::SharedRows;
 use cm_commands::Prepared;
@@ -61,14 +61,14 @@ impl SecondPass {
     {
         match judged {
             RowRecord::Kept(kept) => Ok(self.prepare(kept.into_record())?),
-            RowRecord::Absent => Err(OpenFault::Damaged {
+            RowRecord::Absent => Err(OpenFault::File(FileFault::Damaged {
                 what: Damage::Chunks,
                 slot,
-            }),
-            RowRecord::Broken => Err(OpenFault::Damaged {
+            })),
+            RowRecord::Broken => Err(OpenFault::File(FileFault::Damaged {
                 what: Damage::Record,
                 slot,
-            }),
+            })),
             RowRecord::NoMemory => Err(OpenFault::NoMemory),
             RowRecord::Taken(_) => unreachable!(),
         }
@@ -93,10 +93,10 @@ impl SecondPass {
     {
         let class = self.class_of(judged, slot)?;
         if rows.has_class(row.loader, &class) {
-            return Err(OpenFault::Damaged {
+            return Err(OpenFault::File(FileFault::Damaged {
                 what: Damage::ClassTwice,
                 slot,
-            });
+            }));
         }
         rows.push_class(self.number, row, class)?;
         Ok(())
