@@ -26,23 +26,24 @@ sweep_program() {
     WORK=$work tests/refused_memory.py "$built" "${@:2}" <"$1"
     check_last "the program with a refused allocation: ${*:2}"
 }
-beside sweep_program "$work/script" 387 apply --memory
-beside sweep_program "$work/script" 435 apply FILE
+beside sweep_program "$work/script" 376 apply --memory
+beside sweep_program "$work/script" 424 apply FILE
 beside sweep_program "$work/script" 91 format FILE
 # Only opening a file, and checking it.
-beside sweep_program /dev/null 363 apply FILE
-beside sweep_program /dev/null 279 check FILE
-beside sweep_program /dev/null 433 list FILE
-# The same for a cache that is started for threads: what they share, and the flusher's thread.
-beside sweep_program /dev/null 386 apply FILE --workers 2
-beside sweep_program "$work/script" 455 apply FILE --workers 2
-# The same with the library only: one thread makes a loader and defines a class.
+beside sweep_program /dev/null 360 apply FILE
+beside sweep_program /dev/null 276 check FILE
+beside sweep_program /dev/null 430 list FILE
+# The same with two workers, which read and judge records and prepare classes.
+beside sweep_program /dev/null 375 apply FILE --workers 2
+beside sweep_program "$work/script" 447 apply FILE --workers 2
+# A cache that is started for threads: what they share, and the flusher's thread. One thread makes a
+# loader and defines a class.
 files=$(find_program cm_bench_files)
 sweep_threads() {
     WORK=$work tests/refused_memory.py "$files" "$1" threads FILE --threads 1
     check_last "a cache for threads with a refused allocation"
 }
-beside sweep_threads 405
+beside sweep_threads 404
 end_sweeps
 
 bench=$(find_program cm_bench)

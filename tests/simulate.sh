@@ -11,6 +11,6 @@ cd "$(dirname "$0")/.." || exit 1
 simulate=$(find_program cm_simulate)
 
 WORK=$work counted "events" tests/simulate.py "$simulate"
-WORK=$work counted "refused allocations" tests/simulate.py "$simulate" 377
+WORK=$work counted "refused allocations" tests/simulate.py "$simulate" 374
 
 finish

@@ -39,12 +39,12 @@ beside sweep cm_space_tests arenas::places_words 15
 beside sweep cm_space_tests arenas::takes_larger_chunks_in_a_longer_chain 25
 beside sweep cm_class_tests faults::a_fault_behind_a_refusal 4
 beside sweep cm_jar_tests contents::a_jar_is_read_after_a_refusal 2
-beside sweep cm_commit_tests commands::a_left_chunk_waits_for_its_receipt 198
+beside sweep cm_commit_tests commands::a_left_chunk_waits_for_its_receipt 196
 beside sweep cm_commit_tests \
-    commands::chunks_of_loaders_that_go_at_once_wait_for_the_receipt 206
-beside sweep cm_commit_tests refused::a_class_is_found_after_a_refusal 205
-beside sweep cm_commit_tests refused::a_loader_comes_again_after_a_refusal 218
-beside sweep cm_commit_tests refused::a_chunk_is_left_after_a_refusal 225
+    commands::chunks_of_loaders_that_go_at_once_wait_for_the_receipt 204
+beside sweep cm_commit_tests refused::a_class_is_found_after_a_refusal 204
+beside sweep cm_commit_tests refused::a_loader_comes_again_after_a_refusal 216
+beside sweep cm_commit_tests refused::a_chunk_is_left_after_a_refusal 223
 beside sweep cm_commit_tests made_again::a_file_is_made_and_opened_after_a_refusal 109
 end_sweeps
 
