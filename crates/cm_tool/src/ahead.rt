@@ -7,7 +7,7 @@ ghost use Rattle.hex.specs.Hex.{decode_of};
 ghost use Rattle.cm_tool.specs.Ahead.{IsClassOf, IsDefinedThere};
 
 use cm_commands::{Prepared, Refusal, prepare};
-use cm_lines::{Line, LineBuffer, LineFault, read_line};
+use cm_lines::{Line, LineBuffer, LineFault, cut, read_line};
 use hex::FromHexError;
 use std::alloc::Global;
 use std::io::{BufRead, ErrorKind};
@@ -102,8 +102,7 @@ impl<'a, T: Threads + Sync> LinesAhead<'a, T> {
 
     /// Prepares the classes of the lines that are shown whole, if that is worth several threads.
     fn prepare(&mut self, alloc: Global, shown: &[u8]) {
-        let text = whole_lines(shown);
-        let (mut lines, bytes) = read_lines(alloc, text);
+        let (mut lines, bytes) = read_lines(alloc, shown);
         self.left = lines.len();
         let threads = (bytes / BYTES_A_THREAD).clamp(1, self.workers);
         if threads > 1 {
@@ -249,27 +248,24 @@ fn class_of_bytes(alloc: Global, bytes: &[u8]) -> LineClass
     }
 }
 
-/// The lines that are whole in what a reader shows: what precedes the last newline, and that.
-fn whole_lines(shown: &[u8]) -> &[u8] {
-    match shown.iter().rposition(|byte| *byte == b'\n') {
-        Some(last) => &shown[..=last],
-        None => &[],
-    }
-}
-
-/// The first lines of a text, up to a limit and as far as there is memory, and how many bytes they
-/// have, with their newlines.
-fn read_lines(alloc: Global, text: &[u8]) -> (Vec<LineAhead>, usize) {
-    let mut rest = text;
+/// The first whole lines of what a reader shows, up to a limit and as far as there is memory, and
+/// how many bytes they have, with their newlines. What follows them isn't looked at.
+fn read_lines(alloc: Global, shown: &[u8]) -> (Vec<LineAhead>, usize) {
+    let mut rest = shown;
     let mut lines = Vec::new(alloc);
     for _ in 0..MOST_LINES {
+        let Some((_, others)) = cut(rest, b'\n') else {
+            break;
+        };
+        let (mut whole, _) = rest.split_at(rest.len().saturating_sub(others.len()));
         let mut line = LineBuffer::new(alloc);
-        if !matches!(read_line(&mut rest, &mut line), Ok(true)) {
+        if !matches!(read_line(&mut whole, &mut line), Ok(true)) {
             break;
         }
         if lines.push(LineAhead::new(line)).is_err() {
             break;
         }
+        rest = others;
     }
-    (lines, text.len().saturating_sub(rest.len()))
+    (lines, shown.len().saturating_sub(rest.len()))
 }
