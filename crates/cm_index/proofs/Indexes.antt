@@ -1,5 +1,5 @@
 -- An index over rows: what a search in it finds, and the index of rows that change.
--- For `add_entry`, `class_in`, `class_like` and others.
+-- For `add_entry`, `class`, `class_like` and others.
 use Rattle.std.proofs.Common.{◌≡◌, ℕ, zero, suc, ◌+◌, ◌<◌, ◌⊎◌, Bool, true, false, cond, eqb, List}
 use Rattle.std.proofs.Common.{[], ◌∷◌, ◌++◌, map, length, take, drop, get_or, set, Option, Some}
 use Rattle.std.proofs.Common.{None, refl, sym, ◌∙◌, ap, subst, arith, inl, inr, length-append}

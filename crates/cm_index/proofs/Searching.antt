@@ -1,6 +1,6 @@
 -- A search in blocks: what one key says about the others, and how a find in one block is a find
 -- among all.
--- For `block_of`, `find_row`, `search`, `sweep_blocks`.
+-- For `block_of`, `find`, `search`, `sweep_blocks`.
 use Rattle.std.proofs.Common.{◌≡◌, ℕ, suc, ◌+◌, ◌<◌, List, [], ◌++◌, map, length, take, drop}
 use Rattle.std.proofs.Common.{get_or, sym, ◌∙◌, ap, subst, arith, add-one, length-append}
 use Rattle.std.specs.List.{AllByRecursion}

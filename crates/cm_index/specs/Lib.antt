@@ -4,3 +4,4 @@ pub mod Blocks
 pub mod Index
 pub mod Sought
 pub mod Sweep
+pub mod IndexedRows

@@ -75,40 +75,55 @@ impl Index {
     {
         clear(&mut self.blocks, &mut self.spare);
     }
-}
 
-/// The first living row of an owner that has this name.
-pub fn find_row<'a, P: Kept>(
-    index: &Index,
-    slots: &'a [BookSlot<Row<P>>],
-    sought: &Sought<P>,
-) -> Option<&'a Row<P>>
-    requires index { IsIndex P.mark P.name slots.now index.now.items }
-    requires key { IsKey P.mark P.name sought.now }
-    ensures { option_copied result ≡ find
-        (is_named P.name (rank sought.now.owner) (name_sought P.name sought.now.name))
-        (living slots.now) }
-{
-    let Ok(spot) = search(&index.blocks, slots, sought) else {
-        return None;
-    };
-    let entry = entry_at(&index.blocks, &spot);
-    let slot = &slots[entry.at as usize];
-    if slot.live { Some(&slot.item) } else { None }
-}
+    /// The first living row of an owner that has this name.
+    pub fn find<'a, P: Kept>(
+        &self,
+        slots: &'a [BookSlot<Row<P>>],
+        sought: &Sought<P>,
+    ) -> Option<&'a Row<P>>
+        requires index { IsIndex P.mark P.name slots.now self.now.items }
+        requires key { IsKey P.mark P.name sought.now }
+        ensures { option_copied result ≡ find
+            (is_named P.name (rank sought.now.owner) (name_sought P.name sought.now.name))
+            (living slots.now) }
+    {
+        let Ok(spot) = search(&self.blocks, slots, sought) else {
+            return None;
+        };
+        let entry = entry_at(&self.blocks, &spot);
+        let slot = &slots[entry.at as usize];
+        if slot.live { Some(&slot.item) } else { None }
+    }
 
-/// Adds the next row, which lives, to an index of those before it, if there is room for it. An
-/// entry that leads to a dead row of its owner and name leads to the new row from then on.
-pub fn add_row<P: Kept>(index: &mut Index, slots: &[BookSlot<Row<P>>], at: usize)
-    requires index { IsIndex P.mark P.name (take at slots.now) index.old.items }
-    requires within { at < length slots.now }
-    requires lives { LivesAt slots.now at }
-    requires fits { at < 2 ^ 32 }
-    requires room { at < index.old.room }
-    ensures index { IsIndex P.mark P.name (take (at + 1) slots.now) index.new.items }
-    ensures room { index.new.room ≡ index.old.room }
-{
-    add_entry(&mut index.blocks, &mut index.spare, slots, at);
+    /// Adds the next row, which lives, to an index of those before it, if there is room for it. An
+    /// entry that leads to a dead row of its owner and name leads to the new row from then on.
+    pub fn add<P: Kept>(&mut self, slots: &[BookSlot<Row<P>>], at: usize)
+        requires index { IsIndex P.mark P.name (take at slots.now) self.old.items }
+        requires within { at < length slots.now }
+        requires lives { LivesAt slots.now at }
+        requires fits { at < 2 ^ 32 }
+        requires room { at < self.old.room }
+        ensures index { IsIndex P.mark P.name (take (at + 1) slots.now) self.new.items }
+        ensures room { self.new.room ≡ self.old.room }
+    {
+        add_entry(&mut self.blocks, &mut self.spare, slots, at);
+    }
+
+    /// Turns the index of all places into that of the places of live rows alone. `places` is
+    /// overwritten.
+    pub fn sweep<P: Kept>(&mut self, places: &mut Vec<u32>, slots: &[BookSlot<Row<P>>])
+        requires index { IsIndex P.mark P.name slots.now self.old.items }
+        requires fits { length slots.now ≤ 2 ^ 31 }
+        requires room { length slots.now ≤ vec_capacity places.old }
+        ensures index { IsIndex P.mark P.name (swept slots.now) self.new.items }
+        ensures room { self.new.room ≡ self.old.room }
+        ensures places { vec_capacity places.old ≤ vec_capacity places.new }
+    {
+        count_places(places, slots);
+        sweep_blocks(&mut self.blocks, places, slots);
+        pack(&mut self.blocks, &mut self.spare);
+    }
 }
 
 /// Puts the next row's entry among those in an index's blocks.
@@ -163,55 +178,4 @@ fn renew<P>(
     if !slots[before.at as usize].live {
         set_entry(blocks, spot, entry);
     }
-}
-
-/// Appends a row to the others and adds it to their index, if there is room for it.
-pub fn push_row<P: Kept>(slots: &mut Vec<BookSlot<Row<P>>>, index: &mut Index, row: Row<P>)
-    requires index { IsIndex P.mark P.name slots.old.items index.old.items }
-    requires fits { vec_len slots.old < 2 ^ 32 }
-    requires room { vec_len slots.old < vec_capacity slots.old }
-    requires index_room { vec_len slots.old < index.old.room }
-    ensures slots { slots.new.items ≡ slots.old.items ++ record { item = row; live = true } ∷ [] }
-    ensures index { IsIndex P.mark P.name
-        (slots.old.items ++ record { item = row; live = true } ∷ []) index.new.items }
-    ensures capacity { vec_capacity slots.old ≤ vec_capacity slots.new }
-    ensures index_room { index.new.room ≡ index.old.room }
-{
-    let at = slots.len();
-    slots
-        .push(BookSlot {
-            item: row,
-            live: true,
-        })
-        .unwrap();
-    add_row(index, slots, at);
-}
-
-/// Makes an index of rows that all live, if there is room for it.
-pub fn index_rows<P: Kept>(index: &mut Index, slots: &[BookSlot<Row<P>>])
-    requires live { AllByRecursion (λ s. s.live ≡ true) slots.now }
-    requires fits { length slots.now ≤ 2 ^ 32 }
-    requires room { length slots.now ≤ index.old.room }
-    ensures index { IsIndex P.mark P.name slots.now index.new.items }
-    ensures room { index.new.room ≡ index.old.room }
-{
-    index.clear();
-    for at in 0..slots.len() {
-        add_row(index, slots, at);
-    }
-}
-
-/// Turns the index of all places into that of the places of live rows alone. `places` is
-/// overwritten.
-pub fn sweep_index<P: Kept>(index: &mut Index, places: &mut Vec<u32>, slots: &[BookSlot<Row<P>>])
-    requires index { IsIndex P.mark P.name slots.now index.old.items }
-    requires fits { length slots.now ≤ 2 ^ 31 }
-    requires room { length slots.now ≤ vec_capacity places.old }
-    ensures index { IsIndex P.mark P.name (swept slots.now) index.new.items }
-    ensures room { index.new.room ≡ index.old.room }
-    ensures places { vec_capacity places.old ≤ vec_capacity places.new }
-{
-    count_places(places, slots);
-    sweep_blocks(&mut index.blocks, places, slots);
-    pack(&mut index.blocks, &mut index.spare);
 }

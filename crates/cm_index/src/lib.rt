@@ -5,14 +5,14 @@ mod block;
 mod blocks;
 mod index;
 mod kept;
-mod names;
 mod records;
+mod rows;
 mod search;
 mod slot;
 mod sought;
 mod sweep;
 
-pub use index::{Index, index_rows, push_row, sweep_index};
+pub use index::Index;
 pub use kept::Kept;
-pub use names::{class_in, class_like, is_new_loader_name, loader_of};
+pub use rows::{IndexedRows, sweep_slots};
 pub use slot::BookSlot;

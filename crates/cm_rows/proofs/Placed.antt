@@ -147,42 +147,45 @@ module _ {P : Type 0} where
 
   pub last-at-place : (sizes : Sizes) (rows : RowPlaces P) (loaders : LoaderPlaces) (u i : ℕ)
       (o : Option ℕ) → HasLinks sizes rows loaders → LoaderIsAt (items loaders.slots.items) u i
-      → get_or loaders.newest.items i o ≡ last_place u rows.slots.items
+      → get_or loaders.newest.items i o ≡ last_place u rows.indexed.slots.items
   last-at-place sizes rows loaders u i o h at =
       ap (λ l. get_or l i o) h.lasts
-      ∙ places-at rows.slots.items (items loaders.slots.items) i nobody o at.within
-      ∙ ap (λ (v : ℕ). last_place v rows.slots.items) (at.number_is nobody)
+      ∙ places-at rows.indexed.slots.items (items loaders.slots.items) i nobody o at.within
+      ∙ ap (λ (v : ℕ). last_place v rows.indexed.slots.items) (at.number_is nobody)
 
   pub as-many : (sizes : Sizes) (rows : RowPlaces P) (loaders : LoaderPlaces)
       → HasLinks sizes rows loaders → length loaders.newest.items ≡ length loaders.slots.items
   as-many sizes rows loaders h =
       let ls = items loaders.slots.items in
-      ap length h.lasts ∙ length-map (numbers_of_loaders ls) (λ u. last_place u rows.slots.items)
+      ap length h.lasts ∙ length-map (numbers_of_loaders ls)
+      (λ u. last_place u rows.indexed.slots.items)
       ∙ length-map ls (λ (l : LiveLoader). l.number)
       ∙ length-map loaders.slots.items (λ (s : BookSlot LiveLoader). s.item)
 
   -- there is no less room than before
   pub record IsRoomier (old : RowPlaces P) (known : LoaderPlaces) (new : RowPlaces P)
       (left : LoaderPlaces) : Type 0 where
-    pub slots : vec_capacity old.slots ≤ vec_capacity new.slots
+    pub slots : vec_capacity old.indexed.slots ≤ vec_capacity new.indexed.slots
     pub before : vec_capacity old.before ≤ vec_capacity new.before
     pub newest : vec_capacity known.newest ≤ vec_capacity left.newest
 
   -- one more class, of the loader at this place
   pub record HasClass (old : RowPlaces P) (known : LoaderPlaces) (r : ClassRow) (k : P) (i : ℕ)
       (last : Option LastChunk) (new : RowPlaces P) (left : LoaderPlaces) : Type 0 where
-    pub slots : new.slots.items ≡ old.slots.items ++ record { item = Class r k; live = true } ∷ []
+    pub slots : new.indexed.slots.items ≡ old.indexed.slots.items
+        ++ record { item = Class r k; live = true } ∷ []
     pub before : new.before.items ≡ old.before.items ++ get_or known.newest.items i None ∷ []
     pub loaders : left.slots.items ≡ set known.slots.items i (living_loader r.loader last)
-    pub newest : left.newest.items ≡ set known.newest.items i (Some (length old.slots.items))
+    pub newest : left.newest.items
+        ≡ set known.newest.items i (Some (length old.indexed.slots.items))
 
   pub links-class : (sizes : Sizes) (old new : RowPlaces P) (known left : LoaderPlaces)
       (r : ClassRow) (k : P) (i : ℕ) (o : Option LastChunk) → HasLinks sizes old known
-      → length old.slots.items < 2 * row_limit sizes → Rises (items known.slots.items)
+      → length old.indexed.slots.items < 2 * row_limit sizes → Rises (items known.slots.items)
       → LoaderIsAt (items known.slots.items) r.loader i → HasClass old known r k i o new left
       → IsRoomier old known new left → HasLinks sizes new left
   links-class sizes old new known left r k i o h few rises at has more =
-      let slots = old.slots.items in
+      let slots = old.indexed.slots.items in
       let ls = items known.slots.items in
       let s : BookSlot (Row P) = record { item = Class r k; live = true } in
       let l : BookSlot LiveLoader = living_loader r.loader o in
@@ -205,10 +208,12 @@ module _ {P : Type 0} where
   -- one more loader
   pub record HasLoader (old : RowPlaces P) (known : LoaderPlaces) (r : LoaderRow)
       (new : RowPlaces P) (left : LoaderPlaces) : Type 0 where
-    pub slots : new.slots.items ≡ old.slots.items ++ record { item = Loader r; live = true } ∷ []
+    pub slots : new.indexed.slots.items ≡ old.indexed.slots.items
+        ++ record { item = Loader r; live = true } ∷ []
     pub before : new.before.items ≡ old.before.items ++ None ∷ []
     pub loaders : left.slots.items ≡ known.slots.items ++ living_loader r.number None ∷ []
-    pub newest : left.newest.items ≡ known.newest.items ++ Some (length old.slots.items) ∷ []
+    pub newest : left.newest.items ≡ known.newest.items
+        ++ Some (length old.indexed.slots.items) ∷ []
 
   -- no row belongs to the new loader
   none-there : (sizes : Sizes) (rows : List (Row P)) (ls : List LiveLoader) (p : FreeSpace)
@@ -221,12 +226,12 @@ module _ {P : Type 0} where
   pub links-loader : (sizes : Sizes) (rows : List (Row P)) (ls : List LiveLoader) (p : FreeSpace)
       (old new : RowPlaces P) (known left : LoaderPlaces) (r : LoaderRow)
       → AreRowsInPlace sizes rows ls p
-      → is_above r.number rows ≡ true → living old.slots.items ≡ rows
+      → is_above r.number rows ≡ true → living old.indexed.slots.items ≡ rows
       → AllByRecursion (λ l. l.number < r.number) (items known.slots.items)
-      → HasLinks sizes old known → length old.slots.items < 2 * row_limit sizes
+      → HasLinks sizes old known → length old.indexed.slots.items < 2 * row_limit sizes
       → HasLoader old known r new left → IsRoomier old known new left → HasLinks sizes new left
   links-loader sizes rows ls p old new known left r b above same under h few has more =
-      let slots = old.slots.items in
+      let slots = old.indexed.slots.items in
       let s : BookSlot (Row P) = record { item = Loader r; live = true } in
       let l : BookSlot LiveLoader = living_loader r.number None in
       let fresh = subst (AllByRecursion (λ row. is_of r.number row ≡ false)) (sym same)
@@ -250,12 +255,12 @@ module _ {P : Type 0} where
   -- without the rows of a loader, whose place is the same or removed
   pub links-unloaded : (sizes : Sizes) (old new : RowPlaces P) (known left : LoaderPlaces)
       (u i : ℕ) → HasLinks sizes old known → Rises (items known.slots.items)
-      → LoaderIsAt (items known.slots.items) u i → new.slots.items
-      ≡ map (unloaded u) old.slots.items
-      → AreLinked new.slots.items new.before.items → HasEnded known i u left
+      → LoaderIsAt (items known.slots.items) u i → new.indexed.slots.items
+      ≡ map (unloaded u) old.indexed.slots.items
+      → AreLinked new.indexed.slots.items new.before.items → HasEnded known i u left
       → IsRoomier old known new left → HasLinks sizes new left
   links-unloaded sizes old new known left u i h rises at slots_are linked e more =
-      let slots = old.slots.items in
+      let slots = old.indexed.slots.items in
       let ls = items known.slots.items in
       let n : ℕ = e.count in
       let after = map (unloaded u) slots in
@@ -284,7 +289,7 @@ module _ {P : Type 0} where
   -- a moved chunk, the last one of the loader at this place
   pub record HasMoved (old : RowPlaces P) (known : LoaderPlaces) (from to : Chunk) (u i : ℕ)
       (last : Option LastChunk) (new : RowPlaces P) (left : LoaderPlaces) : Type 0 where
-    pub slots : new.slots.items ≡ map (moved_slot from to) old.slots.items
+    pub slots : new.indexed.slots.items ≡ map (moved_slot from to) old.indexed.slots.items
     pub before : new.before.items ≡ old.before.items
     pub loaders : left.slots.items ≡ set known.slots.items i (living_loader u last)
     pub newest : left.newest.items ≡ known.newest.items
@@ -294,7 +299,7 @@ module _ {P : Type 0} where
       → LoaderIsAt (items known.slots.items) u i → HasMoved old known from to u i o new left
       → IsRoomier old known new left → HasLinks sizes new left
   links-moved sizes from to old new known left u i o h at has more =
-      let slots = old.slots.items in
+      let slots = old.indexed.slots.items in
       let ls = items known.slots.items in
       let after = map (moved_slot from to) slots in
       let l : BookSlot LiveLoader = living_loader u o in

@@ -11,7 +11,7 @@ use Rattle.cm_layout.specs.declared.class_row.ClassRow.{ClassRow}
 use Rattle.cm_layout.specs.declared.loader_row.LoaderRow.{LoaderRow}
 use Rattle.cm_layout.specs.declared.row.Row.{Row}
 use Rattle.cm_layout.specs.declared.row.Row.TheVariants.{Loader, Class}
-use Rattle.cm_layout.specs.Rows.{classes_in, numbers_in, name_of, is_of}
+use Rattle.cm_layout.specs.Rows.{classes_in, numbers_in, name_of}
 use Rattle.cm_layout.specs.Rows.{without_loader, moved, bare}
 use Rattle.cm_layout.specs.Rules.{is_live}
 use Rattle.cm_rows.proofs.Classes.{moved_class}

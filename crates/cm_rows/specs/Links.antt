@@ -116,10 +116,10 @@ pub record LinksBack {P : Type 0} (slots : List (BookSlot (Row P))) (before : Li
 -- the links of the places, with room for twice the rows that can live
 pub record HasLinks {P : Type 0} (sizes : Sizes) (rows : RowPlaces P)
     (loaders : LoaderPlaces) : Type 0 where
-  pub linked : AreLinked rows.slots.items rows.before.items
+  pub linked : AreLinked rows.indexed.slots.items rows.before.items
   pub lasts : loaders.newest.items
-      ≡ last_places rows.slots.items (numbers_of_loaders (items loaders.slots.items))
-  pub few : length rows.slots.items ≤ 2 * row_limit sizes
-  pub room : 2 * row_limit sizes ≤ vec_capacity rows.slots
+      ≡ last_places rows.indexed.slots.items (numbers_of_loaders (items loaders.slots.items))
+  pub few : length rows.indexed.slots.items ≤ 2 * row_limit sizes
+  pub room : 2 * row_limit sizes ≤ vec_capacity rows.indexed.slots
   pub before_room : 2 * row_limit sizes ≤ vec_capacity rows.before
   pub newest_room : 2 * row_limit sizes ≤ vec_capacity loaders.newest

@@ -1,5 +1,5 @@
 -- What is kept of live rows: the rows in order, and beside them what answers queries on them.
-use Rattle.std.specs.Prelude.{◌≡◌, ◌≤◌, ℕ, List, length, vec_capacity}
+use Rattle.std.specs.Prelude.{◌≡◌, ◌≤◌, ℕ, List, vec_capacity}
 use Rattle.cm_pool.specs.Geometry.{Sizes, IsGeometry}
 use Rattle.cm_pool.specs.FreeSpace.{FreeSpace}
 use Rattle.cm_pool.specs.Lists.{Among}
@@ -42,5 +42,6 @@ pub record AreRowsInPlace {P : Type 0} (sizes : Sizes) (rows : List (Row P))
 abbrev pub AreIndexed : {P : Type 0} → (ℕ → List ℕ → ℕ) → (P → List ℕ) → Sizes → RowPlaces P
     → Type 0
 AreIndexed mark name_of sizes rows =
-    HasIndex mark name_of sizes rows.slots.items rows.index.items rows.index.room
-    (vec_capacity rows.places)
+    HasIndex mark name_of sizes rows.indexed.slots.items rows.indexed.index.items
+    rows.indexed.index.room
+    (vec_capacity rows.indexed.places)

@@ -5,7 +5,7 @@ ghost use Rattle.std.specs.Prelude.{true, length, map, get_or, slice_set, vec_le
 ghost use Rattle.std.specs.List.{AllByRecursion};
 ghost use Rattle.cm_pool.specs.Geometry.{IsGeometry};
 ghost use Rattle.cm_index.specs.Index.{LivesAt};
-ghost use Rattle.cm_index.specs.Living.{living, swept, unloaded, moved_slot};
+ghost use Rattle.cm_index.specs.Living.{living, unloaded, moved_slot};
 ghost use Rattle.cm_rows.specs.LiveRows.{AreIndexed};
 ghost use Rattle.cm_rows.specs.Held.{PoolHolds, chunks_of_rows};
 ghost use Rattle.cm_rows.specs.Links.{loader_in, last_place, last_places, AreLinked, HasLinks};
@@ -18,7 +18,7 @@ use crate::live_loader::{LastChunk, LiveLoader, find};
 use crate::loader_places::LoaderPlaces;
 use crate::row_places::RowPlaces;
 use crate::rows::{move_row, own_chunk};
-use cm_index::{BookSlot, Kept, sweep_index};
+use cm_index::{BookSlot, Kept, sweep_slots};
 use cm_layout::{Row, row_limit};
 use cm_pool::{Chunk, Geometry, Pool};
 
@@ -186,40 +186,32 @@ pub fn relink<P>(
     }
 }
 
-// Removes dead items.
-fn sweep<T: Drop>(slots: &mut Vec<BookSlot<T>>)
-    ensures slots { slots.new.items ≡ swept slots.old.items }
-    ensures capacity { vec_capacity slots.new ≡ vec_capacity slots.old }
-{
-    slots.retain(|slot| slot.live);
-}
-
 /// If twice as many places are taken as rows can live, sweeps out dead rows and loaders.
 pub fn make_room<P: Kept>(geometry: Geometry, rows: &mut RowPlaces<P>, loaders: &mut LoaderPlaces)
     requires lawful { IsGeometry geometry }
-    requires few { length (living rows.old.slots.items) < row_limit_of geometry }
+    requires few { length (living rows.old.indexed.slots.items) < row_limit_of geometry }
     requires loaders_few { length (living loaders.old.slots.items)
-        ≤ length (living rows.old.slots.items) }
+        ≤ length (living rows.old.indexed.slots.items) }
     requires index { AreIndexed P.mark P.name geometry rows.old }
     requires links { HasLinks geometry rows.old loaders.old }
-    requires loaders { HasLoaders geometry loaders.old (length rows.old.slots.items) }
-    requires owned { AreOwned (living rows.old.slots.items) (living loaders.old.slots.items) }
-    ensures rows { living rows.new.slots.items ≡ living rows.old.slots.items }
+    requires loaders { HasLoaders geometry loaders.old (length rows.old.indexed.slots.items) }
+    requires owned { AreOwned (living rows.old.indexed.slots.items)
+        (living loaders.old.slots.items) }
+    ensures rows { living rows.new.indexed.slots.items ≡ living rows.old.indexed.slots.items }
     ensures living_loaders { living loaders.new.slots.items ≡ living loaders.old.slots.items }
     ensures index { AreIndexed P.mark P.name geometry rows.new }
     ensures links { HasLinks geometry rows.new loaders.new }
-    ensures loaders { HasLoaders geometry loaders.new (length rows.new.slots.items) }
-    ensures room { length rows.new.slots.items < 2 * row_limit_of geometry }
+    ensures loaders { HasLoaders geometry loaders.new (length rows.new.indexed.slots.items) }
+    ensures room { length rows.new.indexed.slots.items < 2 * row_limit_of geometry }
 {
-    if rows.slots.len() >= 2 * row_limit(geometry) {
-        sweep_index(&mut rows.index, &mut rows.places, &rows.slots);
-        sweep(&mut rows.slots);
-        sweep(&mut loaders.slots);
+    if rows.indexed.slots.len() >= 2 * row_limit(geometry) {
+        rows.indexed.sweep();
+        sweep_slots(&mut loaders.slots);
         relink(
             &mut rows.before,
             &mut loaders.newest,
             &loaders.slots,
-            &rows.slots,
+            &rows.indexed.slots,
         );
     }
 }

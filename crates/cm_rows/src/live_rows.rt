@@ -15,7 +15,7 @@ use crate::row_places::RowPlaces;
 use crate::rows::{copy_rows, give_all, take_all};
 use crate::walk::Walk;
 use crate::whole_pool::whole_pool;
-use cm_index::{Kept, class_in, class_like, index_rows, is_new_loader_name, loader_of, push_row};
+use cm_index::Kept;
 use cm_layout::{ClassRow, Entry, EntryRule, LoaderRow, Move, Row, row_limit};
 use cm_pool::{Chunk, Geometry, Pool};
 use std::alloc::{AllocError, Global};
@@ -55,15 +55,16 @@ impl<P: Kept> Model for LiveRows<P> {
 
     ghost Value = { LiveRows P };
 
-    ghost view = { λ b. record { sizes = b.geometry; rows = living b.rows.slots.items } };
+    ghost view = { λ b. record { sizes = b.geometry; rows = living b.rows.indexed.slots.items } };
 
     ghost invariant = { λ b.
-        AreRowsInPlace b.geometry (living b.rows.slots.items) (living b.loaders.slots.items) b.pool
+        AreRowsInPlace b.geometry (living b.rows.indexed.slots.items) (living b.loaders.slots.items)
+        b.pool
         × AreIndexed P.mark P.name b.geometry b.rows
         × HasLinks b.geometry b.rows b.loaders
-        × HasLoaders b.geometry b.loaders (length b.rows.slots.items)
-        × (b.count ≡ length (living b.rows.slots.items))
-        × (b.taken ≡ slots_of_rows (living b.rows.slots.items)) };
+        × HasLoaders b.geometry b.loaders (length b.rows.indexed.slots.items)
+        × (b.count ≡ length (living b.rows.indexed.slots.items))
+        × (b.taken ≡ slots_of_rows (living b.rows.indexed.slots.items)) };
 }
 
 impl<P: Kept> LiveRows<P> {
@@ -145,21 +146,21 @@ impl<P: Kept> LiveRows<P> {
     pub fn loader(&self, name: &[u8]) -> Option<u64>
         ensures { result ≡ number_of_name name.now self.now.rows }
     {
-        loader_of(&self.rows.index, &self.rows.slots, name)
+        self.rows.indexed.loader(name)
     }
 
     /// What is kept of the class of this name in the loader of this number, if it has one.
     pub fn class(&self, loader: u64, name: &[u8]) -> Option<&P>
         ensures { option_copied result ≡ class_of P.name loader name.now self.now.rows }
     {
-        class_in(&self.rows.index, &self.rows.slots, loader, name)
+        self.rows.indexed.class(loader, name)
     }
 
     /// What is kept of the class in the loader of this number that has the name of this one.
     pub fn class_like(&self, loader: u64, class: &P) -> Option<&P>
         ensures { option_copied result ≡ class_of P.name loader (P.name class.now) self.now.rows }
     {
-        class_like(&self.rows.index, &self.rows.slots, loader, class)
+        self.rows.indexed.class_like(loader, class)
     }
 
     /// Whether a loader of this number lives.
@@ -193,7 +194,7 @@ impl<P: Kept> LiveRows<P> {
         let at = find(&self.loaders.slots, number)?;
         let last = self.loaders.slots[at].item.last?;
         Some(LastKept::from_newest(
-            &self.rows.slots,
+            &self.rows.indexed.slots,
             &self.rows.before,
             self.loaders.newest[at],
             last,
@@ -213,7 +214,7 @@ impl<P: Kept> LiveRows<P> {
     pub fn clear(&mut self)
         ensures { self.new ≡ record self.old { rows = [] } }
     {
-        give_all(&self.rows.slots, &mut self.pool);
+        give_all(&self.rows.indexed.slots, &mut self.pool);
         self.rows.clear();
         self.count = 0;
         self.taken = 0;
@@ -224,7 +225,7 @@ impl<P: Kept> LiveRows<P> {
     pub fn walk(&self) -> Walk<'_, P>
         ensures { result ≡ self.now.rows }
     {
-        Walk::over(&self.rows.slots)
+        Walk::over(&self.rows.indexed.slots)
     }
 
     /// How many rows there are.
@@ -252,8 +253,7 @@ impl<P: Kept> LiveRows<P> {
     fn is_new_loader(&self, row: &LoaderRow) -> bool
         ensures { result ≡ is_new_loader self.now.sizes self.now.rows row.now }
     {
-        !self.is_full(row.name.slots())
-            && is_new_loader_name(&self.rows.index, &self.rows.slots, row.name.as_bytes())
+        !self.is_full(row.name.slots()) && self.rows.indexed.is_new_loader_name(row.name.as_bytes())
     }
 
     fn add_loader(&mut self, row: LoaderRow) -> Option<EntryRule>
@@ -269,10 +269,10 @@ impl<P: Kept> LiveRows<P> {
             return Some(EntryRule::OnRows);
         }
         make_room(self.geometry, &mut self.rows, &mut self.loaders);
-        let next = self.rows.slots.len() as u32;
+        let next = self.rows.indexed.slots.len() as u32;
         self.loaders.push(row.number, next);
         push_place(&mut self.rows.before, None);
-        push_row(&mut self.rows.slots, &mut self.rows.index, Row::Loader(row));
+        self.rows.indexed.push_row(Row::Loader(row));
         self.count += 1;
         self.taken += row.name.slots();
         None
@@ -297,14 +297,10 @@ impl<P: Kept> LiveRows<P> {
         make_room(self.geometry, &mut self.rows, &mut self.loaders);
         // dead rows may be swept out before it, which moves it
         let here = find(&self.loaders.slots, row.loader).unwrap();
-        let next = self.rows.slots.len() as u32;
+        let next = self.rows.indexed.slots.len() as u32;
         link(&mut self.rows.before, &mut self.loaders.newest, here, next);
         set_last(&mut self.loaders.slots, here, row.loader, last);
-        push_row(
-            &mut self.rows.slots,
-            &mut self.rows.index,
-            Row::Class(row, kept),
-        );
+        self.rows.indexed.push_row(Row::Class(row, kept));
         self.count += 1;
         self.taken += 1;
         None
@@ -322,7 +318,7 @@ impl<P: Kept> LiveRows<P> {
         };
         let last = self.loaders.newest[at];
         let gone = unload_rows(
-            &mut self.rows.slots,
+            &mut self.rows.indexed.slots,
             &self.rows.before,
             number,
             last,
@@ -384,7 +380,7 @@ impl<P: Kept> LiveRows<P> {
             used: last.used,
         };
         move_rows(
-            &mut self.rows.slots,
+            &mut self.rows.indexed.slots,
             &self.rows.before,
             entry.loader,
             newest,
@@ -428,18 +424,18 @@ impl LiveRows<()> {
         requires { self.old.sizes ≡ other.now.sizes }
         ensures { self.new ≡ record self.old { rows = bare other.now.rows } }
     {
-        give_all(&self.rows.slots, &mut self.pool);
-        take_all(&other.rows.slots, &mut self.pool);
-        copy_rows(&mut self.rows.slots, &other.rows.slots);
+        give_all(&self.rows.indexed.slots, &mut self.pool);
+        take_all(&other.rows.indexed.slots, &mut self.pool);
+        copy_rows(&mut self.rows.indexed.slots, &other.rows.indexed.slots);
         self.count = other.count;
         self.taken = other.taken;
-        index_rows(&mut self.rows.index, &self.rows.slots);
+        self.rows.indexed.index_anew();
         copy_loaders(&mut self.loaders.slots, &other.loaders.slots);
         relink(
             &mut self.rows.before,
             &mut self.loaders.newest,
             &self.loaders.slots,
-            &self.rows.slots,
+            &self.rows.indexed.slots,
         );
     }
 }

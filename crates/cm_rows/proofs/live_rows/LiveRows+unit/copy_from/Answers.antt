@@ -1,4 +1,4 @@
-use Rattle.std.proofs.Common.{◌≡◌, ◌≤◌, length, ap, sym, ◌∙◌, subst, arith}
+use Rattle.std.proofs.Common.{◌≡◌, ◌≤◌, length, vec_capacity, ap, sym, ◌∙◌, subst, arith}
 use Rattle.std.proofs.lemmas.List.{length-map}
 use Rattle.cm_pool.specs.Geometry.{Sizes}
 use Rattle.cm_layout.specs.Rows.{row_with, bare, slots_of_rows}
@@ -27,7 +27,7 @@ same g c = ap (λ (v : LiveRows (Unit {0})). v.sizes) c.self.view_is ∙ c.requi
     ∙ sym (ap (λ v. v.sizes) c.other.view_is)
 
 rows : (g : Over) (c : After-copy_rows g) → living c.copy_rows.new.slots.items
-    ≡ bare (living c.other.inside.rows.slots.items)
+    ≡ bare (living c.other.inside.rows.indexed.slots.items)
 rows g c = c.copy_rows.ensures.rows ∙ ap (λ l. bare (living l)) c.deref-3.ensures.value
 
 few : (g : Over) (c : After-copy_rows g)
@@ -38,7 +38,7 @@ few g c = omega (
   ap (λ l. length (living l))
       c.deref-3.ensures.value,
   c.other.invariant.0.few,
-  rows-within (living c.other.inside.rows.slots.items),
+  rows-within (living c.other.inside.rows.indexed.slots.items),
   ap row_limit (same g c),
 )
 
@@ -50,7 +50,7 @@ copy_rows-requires g c =
     rw c.deref-3.ensures.value (omega (
       arith,
       c.other.invariant.0.few,
-      rows-within (living o.rows.slots.items),
+      rows-within (living o.rows.indexed.slots.items),
       c.self.invariant.2.room,
       ap row_limit sizes,
     ))
@@ -59,44 +59,42 @@ pub copy_loaders-requires : goal.copy_loaders-requires
 copy_loaders-requires g c =
     let o = c.other.inside in
     let at = goal.at.copy_loaders-requires g c in
-    let fewer = loaders-at_most o.geometry (living o.rows.slots.items)
+    let fewer = loaders-at_most o.geometry (living o.rows.indexed.slots.items)
     (living o.loaders.slots.items) o.pool c.other.invariant.0 in
-    rw c.deref-5.ensures.value (omega (
+    rw c.deref-4.ensures.value (omega (
       arith,
       fewer,
       c.self.invariant.3.room,
       ap row_limit (same g at.After-copy_rows),
     ))
 
-pub index_rows-requires-clause-live : goal.index_rows-requires-clause-live
-index_rows-requires-clause-live g c = rw c.deref-4.ensures.value c.copy_rows.ensures.live
+pub index_anew-requires-clause-live : goal.index_anew-requires-clause-live
+index_anew-requires-clause-live g c = c.copy_rows.ensures.live
 
-pub index_rows-requires-clause-fits : goal.index_rows-requires-clause-fits
-index_rows-requires-clause-fits g c =
-    rw c.deref-4.ensures.value (omega (
+pub index_anew-requires-clause-fits : goal.index_anew-requires-clause-fits
+index_anew-requires-clause-fits g c =
+    omega (
       arith,
-      few g (goal.at.index_rows-requires-clause-fits g
-          c).After-copy_rows,
+      few g (goal.at.index_anew-requires-clause-fits g c).After-copy_rows,
       c.self.invariant.0.lawful.slots_to,
-    ))
+    )
 
-pub index_rows-requires-clause-room : goal.index_rows-requires-clause-room
-index_rows-requires-clause-room g c =
-    rw c.deref-4.ensures.value (omega (
+pub index_anew-requires-clause-room : goal.index_anew-requires-clause-room
+index_anew-requires-clause-room g c =
+    omega (
       arith,
-      few g (goal.at.index_rows-requires-clause-room g
-          c).After-copy_rows,
+      few g (goal.at.index_anew-requires-clause-room g c).After-copy_rows,
       c.self.invariant.1.room,
-    ))
+    )
 
 -- the copied rows keep the invariant
 book : (g : Over) (c : After-copy_loaders g) → c.self.inside.geometry ≡ c.other.inside.geometry
-    → AreRowsInPlace c.self.inside.geometry (bare (living c.other.inside.rows.slots.items))
+    → AreRowsInPlace c.self.inside.geometry (bare (living c.other.inside.rows.indexed.slots.items))
     (living c.other.inside.loaders.slots.items) c.take_all.new.pool
 book g c same =
     let o = c.other.inside in
     let sizes = c.self.inside.geometry in
-    let rs = living o.rows.slots.items in
+    let rs = living o.rows.indexed.slots.items in
     let ls = living o.loaders.slots.items in
     let h : AreRowsInPlace sizes rs ls o.pool =
     subst (λ (s : Sizes). AreRowsInPlace s rs ls o.pool) (sym same)
@@ -112,9 +110,9 @@ pub relink-requires-clause-rises : goal.relink-requires-clause-rises
 relink-requires-clause-rises g c =
     let ls = c.other.inside.loaders.slots.items in
     rw (
-      c.deref-6.ensures.value,
-      c.copy_loaders.ensures.loaders,
       c.deref-5.ensures.value,
+      c.copy_loaders.ensures.loaders,
+      c.deref-4.ensures.value,
       items-swept ls,
     ) (rises-living ls c.other.invariant.3.rises)
 
@@ -124,19 +122,20 @@ relink-requires-clause-owned g c =
     let o = c.other.inside in
     let ls = o.loaders.slots.items in
     rw (
-      c.deref-6.ensures.value,
-      c.deref-7.ensures.value,
-      c.copy_loaders.ensures.loaders,
       c.deref-5.ensures.value,
+      c.deref-6.ensures.value,
+      c.index_anew.ensures.slots,
+      c.copy_loaders.ensures.loaders,
+      c.deref-4.ensures.value,
       living-swept ls,
       rows g at.After-copy_rows,
     )
-    (owned-rows c.self.inside.geometry (bare (living o.rows.slots.items)) (living ls)
+    (owned-rows c.self.inside.geometry (bare (living o.rows.indexed.slots.items)) (living ls)
     c.take_all.new.pool (book g at.After-copy_loaders (same g at.After-copy_rows)))
 
 pub relink-requires-clause-fits : goal.relink-requires-clause-fits
 relink-requires-clause-fits g c =
-    rw c.deref-7.ensures.value (omega (
+    rw (c.deref-6.ensures.value, c.index_anew.ensures.slots) (omega (
       arith,
       few g (goal.at.relink-requires-clause-fits g c).After-copy_rows,
       c.self.invariant.0.lawful.slots_to,
@@ -144,7 +143,7 @@ relink-requires-clause-fits g c =
 
 pub relink-requires-clause-room : goal.relink-requires-clause-room
 relink-requires-clause-room g c =
-    rw c.deref-7.ensures.value (omega (
+    rw (c.deref-6.ensures.value, c.index_anew.ensures.slots) (omega (
       arith,
       few g (goal.at.relink-requires-clause-room g c).After-copy_rows,
       c.self.invariant.2.before_room,
@@ -155,9 +154,9 @@ relink-requires-clause-newest_room g c =
     let at = goal.at.relink-requires-clause-newest_room g c in
     let o = c.other.inside in
     let ls = o.loaders.slots.items in
-    let fewer = loaders-at_most o.geometry (living o.rows.slots.items) (living ls) o.pool
+    let fewer = loaders-at_most o.geometry (living o.rows.indexed.slots.items) (living ls) o.pool
     c.other.invariant.0 in
-    rw (c.deref-6.ensures.value, c.copy_loaders.ensures.loaders, c.deref-5.ensures.value)
+    rw (c.deref-5.ensures.value, c.copy_loaders.ensures.loaders, c.deref-4.ensures.value)
     (omega (
       arith,
       fewer,
@@ -170,15 +169,16 @@ pub invariant_of-self : goal.invariant_of-self
 invariant_of-self g c =
     let at = goal.at.invariant_of-self g c in
     let o = c.other.inside in
-    let rs = living o.rows.slots.items in
+    let rs = living o.rows.indexed.slots.items in
     let ls = o.loaders.slots.items in
     let sizes = c.self.inside.geometry in
-    let is = rows g at.After-copy_rows in
+    let slots_are = ap (λ slots. slots.items) c.index_anew.ensures.slots in
+    let is = ap living slots_are ∙ rows g at.After-copy_rows in
     let less = few g at.After-copy_rows in
-    let index = rw c.deref-4.ensures.value at c.index_rows.ensures.index in
-    let linked = rw c.deref-7.ensures.value at c.relink.ensures.linked in
-    let lasts = rw (c.deref-7.ensures.value, c.deref-6.ensures.value) at c.relink.ensures.newest in
-    let copied = rw c.deref-5.ensures.value at c.copy_loaders.ensures.loaders in
+    let index = c.index_anew.ensures.index in
+    let linked = rw c.deref-6.ensures.value at c.relink.ensures.linked in
+    let lasts = rw (c.deref-6.ensures.value, c.deref-5.ensures.value) at c.relink.ensures.newest in
+    let copied = rw c.deref-4.ensures.value at c.copy_loaders.ensures.loaders in
     let new_loaders : LoaderPlaces = record {
       slots = c.copy_loaders.new.loaders;
       newest = c.relink.new.newest;
@@ -191,14 +191,23 @@ invariant_of-self g c =
       record {
         index = index;
         unique = subst AreUnique (sym is) (unique-bare rs c.other.invariant.1.unique);
-        room = omega (arith, c.self.invariant.1.room, c.index_rows.ensures.room);
-        places_room = c.self.invariant.1.places_room;
+        room = omega (arith, c.self.invariant.1.room, c.index_anew.ensures.room);
+        places_room = omega (
+          arith,
+          c.self.invariant.1.places_room,
+          ap vec_capacity c.index_anew.ensures.places,
+        );
       },
       record {
         linked = linked;
         lasts = lasts;
-        few = omega (arith, less);
-        room = omega (arith, c.self.invariant.2.room, c.copy_rows.ensures.capacity);
+        few = omega (arith, less, ap length slots_are);
+        room = omega (
+          arith,
+          c.self.invariant.2.room,
+          c.copy_rows.ensures.capacity,
+          ap vec_capacity c.index_anew.ensures.slots,
+        );
         before_room = omega (arith, c.self.invariant.2.before_room, c.relink.ensures.capacity);
         newest_room = omega (
           arith,
@@ -214,6 +223,7 @@ invariant_of-self g c =
           ap length copied,
           length-swept ls,
           fewer,
+          ap length slots_are,
           c.copy_rows.ensures.count,
           ap (λ l. length (living l)) c.deref-3.ensures.value,
         );

@@ -1,5 +1,6 @@
 use Rattle.std.proofs.Common.{◌≡◌, ◌<◌, ◌≤◌, ◌+◌, ◌++◌, ◌∷◌, [], ℕ, Bool, true, false, cond, Some}
-use Rattle.std.proofs.Common.{None, List, length, length-append, refl, sym, ap, subst, ◌∙◌, arith}
+use Rattle.std.proofs.Common.{None, List, length, length-append, vec_capacity, refl, sym, ap, subst}
+use Rattle.std.proofs.Common.{◌∙◌, arith}
 use Rattle.std.specs.List.{AllByRecursion}
 use Rattle.cm_layout.specs.declared.entry_rule.EntryRule.TheVariants.{OnRows}
 use Rattle.cm_layout.specs.declared.row.Row.{Row}
@@ -44,18 +45,21 @@ returns-clause-broken g c =
     (sym c.is_new_loader.ensures ∙ c.if-not-is_new_loader.false)
 
 new : (g : Over) (c : After-is_new_loader g) → c.is_new_loader.result ≡ true
-    → is_new_loader c.self.inside.geometry (living c.self.inside.rows.slots.items) c.args.row ≡ true
+    → is_new_loader c.self.inside.geometry (living c.self.inside.rows.indexed.slots.items)
+    c.args.row ≡ true
 new g c is = sym (rw (← c.self.view_is) at c.is_new_loader.ensures) ∙ is
 
 few : (g : Over) (c : After-is_new_loader g) → c.is_new_loader.result ≡ true
-    → slots_of_rows (living c.self.inside.rows.slots.items) + slots_of_name c.args.row.name
+    → slots_of_rows (living c.self.inside.rows.indexed.slots.items) + slots_of_name c.args.row.name
     ≤ row_limit c.self.inside.geometry
-few g c is = new-few c.self.inside.geometry (living c.self.inside.rows.slots.items) c.args.row
+few g c is = new-few c.self.inside.geometry (living c.self.inside.rows.indexed.slots.items)
+    c.args.row
     (new g c is)
 
 pub make_room-requires-clause-few : goal.make_room-requires-clause-few
 make_room-requires-clause-few g c =
-    fewer-rows c.self.inside.geometry (living c.self.inside.rows.slots.items) c.args.row.name
+    fewer-rows c.self.inside.geometry (living c.self.inside.rows.indexed.slots.items)
+    c.args.row.name
     (few g (goal.at.make_room-requires-clause-few g c).After-is_new_loader
     c.if-not-is_new_loader.false)
 
@@ -64,19 +68,20 @@ overflow_add-self g c =
     let a = c.self.inside in
     let room = few g (goal.at.overflow_add-self g c).After-is_new_loader
     c.if-not-is_new_loader.false in
-    let fewer = fewer-rows a.geometry (living a.rows.slots.items) c.args.row.name room in
+    let fewer = fewer-rows a.geometry (living a.rows.indexed.slots.items) c.args.row.name room in
     omega (arith, fewer, c.self.invariant.4, c.self.invariant.0.lawful.slots_to)
 
 pub make_room-requires-clause-loaders_few : goal.make_room-requires-clause-loaders_few
 make_room-requires-clause-loaders_few g c =
     let a = c.self.inside in
-    loaders-fewer a.geometry (living a.rows.slots.items) (living a.loaders.slots.items) a.pool
+    loaders-fewer a.geometry (living a.rows.indexed.slots.items) (living a.loaders.slots.items)
+    a.pool
     c.self.invariant.0
 
 pub make_room-requires-clause-owned : goal.make_room-requires-clause-owned
 make_room-requires-clause-owned g c =
     let a = c.self.inside in
-    owned-rows a.geometry (living a.rows.slots.items) (living a.loaders.slots.items) a.pool
+    owned-rows a.geometry (living a.rows.indexed.slots.items) (living a.loaders.slots.items) a.pool
     c.self.invariant.0
 
 pub push-requires-clause-room : goal.push-requires-clause-room
@@ -91,10 +96,10 @@ push-requires-clause-newest_room g c =
     let many = as-many c.self.inside.geometry c.make_room.new.rows left m.links in
     omega (arith, many, m.loaders.few, m.room, m.links.newest_room, left.newest.ok.0)
 
-next : (g : Over) (c : After-push_row g) → living c.push_row.new.slots.items
-    ≡ living c.self.inside.rows.slots.items ++ Loader c.args.row ∷ []
+next : (g : Over) (c : After-push_row g) → living c.push_row.new.self.slots.items
+    ≡ living c.self.inside.rows.indexed.slots.items ++ Loader c.args.row ∷ []
 next g c =
-    ap living c.push_row.ensures.slots ∙ living-push c.make_room.new.rows.slots.items
+    ap living c.push_row.ensures.slots ∙ living-push c.make_room.new.rows.indexed.slots.items
     (record { item = Loader c.args.row; live = true }) refl
     ∙ ap (λ l. l ++ Loader c.args.row ∷ []) c.make_room.ensures.rows
 
@@ -110,7 +115,7 @@ invariant_of-self g c =
     let at = goal.at.invariant_of-self g c in
     let a = c.self.inside in
     let sizes = a.geometry in
-    let rows = living a.rows.slots.items in
+    let rows = living a.rows.indexed.slots.items in
     let known = living a.loaders.slots.items in
     let r = c.args.row in
     let m = c.make_room.ensures in
@@ -118,10 +123,8 @@ invariant_of-self g c =
     let left : LoaderPlaces = c.make_room.new.loaders in
     let ls = left.slots.items in
     let new_rows : RowPlaces g.row.P.Denot = record {
-      slots = c.push_row.new.slots;
+      indexed = c.push_row.new.self;
       before = c.push_place.new.places;
-      index = c.push_row.new.index;
-      places = there.places;
     } in
     let new_loaders : LoaderPlaces = c.push.new.self in
     let is = next g at.After-push_row in
@@ -137,21 +140,21 @@ invariant_of-self g c =
     let below = loaders-below sizes rows known a.pool r.number c.self.invariant.0 above in
     let under = all-below ls r.number m.loaders.rises m.loaders.last
     (subst (AllByRecursion (λ k. k.number < r.number)) (sym m.living_loaders) below) in
-    let at_end : c.len-next.result ≡ length there.slots.items =
-    omega (arith, c.len-next.ensures, there.slots.ok.0) in
-    let more : length there.slots.items + 1 ≤ length new_rows.slots.items =
+    let at_end : c.len-next.result ≡ length there.indexed.slots.items =
+    omega (arith, c.len-next.ensures, there.indexed.slots.ok.0) in
+    let more : length there.indexed.slots.items + 1 ≤ length new_rows.indexed.slots.items =
     omega (
       arith,
       ap length c.push_row.ensures.slots,
-      length-append there.slots.items
+      length-append there.indexed.slots.items
           (record { item = Loader r; live = true } ∷ []),
     ) in (
       rw (is, loaders_are) (add-loader sizes rows known a.pool r c.self.invariant.0 room above),
       record {
-        index = rw (c.push_row.ensures.slots) c.push_row.ensures.index;
+        index = c.push_row.ensures.index;
         unique = subst AreUnique (sym is) (unique-loader rows r c.self.invariant.1.unique none);
         room = omega (arith, m.index.room, c.push_row.ensures.index_room);
-        places_room = m.index.places_room;
+        places_room = omega (arith, m.index.places_room, ap vec_capacity c.push_row.ensures.places);
       },
       links-loader sizes rows known a.pool there new_rows left new_loaders r c.self.invariant.0
           above m.rows under m.links m.room
@@ -167,7 +170,8 @@ invariant_of-self g c =
             before = c.push_place.ensures.capacity;
             newest = c.push.ensures.newest_capacity;
           }),
-      loaders-push sizes left new_loaders (length there.slots.items) (length new_rows.slots.items)
+      loaders-push sizes left new_loaders (length there.indexed.slots.items)
+          (length new_rows.indexed.slots.items)
           r.number m.loaders under c.push.ensures.slots c.push.ensures.capacity more,
       omega (arith, c.self.invariant.4, ap length is, length-append rows (Loader r ∷ [])),
       omega (

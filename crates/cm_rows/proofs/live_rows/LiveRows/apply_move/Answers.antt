@@ -34,7 +34,7 @@ use Rattle.cm_rows.proofs.live_rows.LiveRows.apply_move.Goals.{then-not-has_room
 pub returns-in_default-clause-broken : goal.returns-in_default-clause-broken
 returns-in_default-clause-broken g c =
     let sizes = c.self.inside.geometry in
-    let rows = (living c.self.inside.rows.slots.items) in
+    let rows = (living c.self.inside.rows.indexed.slots.items) in
     let e = c.args.entry.now in
     let absent = rw c.deref.ensures.value at c.in_default.ensures.absent in
     rw (← c.self.view_is) (on_chunks-unless (move_fits sizes rows e)
@@ -44,7 +44,7 @@ returns-in_default-clause-broken g c =
 pub returns-in_default-last-clause-broken : goal.returns-in_default-last-clause-broken
 returns-in_default-last-clause-broken g c =
     let sizes = c.self.inside.geometry in
-    let rows = (living c.self.inside.rows.slots.items) in
+    let rows = (living c.self.inside.rows.indexed.slots.items) in
     let e = c.args.entry.now in
     let found = rw c.deref.ensures.value at c.in-Some.ensures.found in
     let loaders = c.self.inside.loaders.slots.items in
@@ -58,7 +58,7 @@ returns-in_default-last-clause-broken g c =
 pub returns-then-not-has_room-clause-broken : goal.returns-then-not-has_room-clause-broken
 returns-then-not-has_room-clause-broken g c =
     let sizes = c.self.inside.geometry in
-    let rows = (living c.self.inside.rows.slots.items) in
+    let rows = (living c.self.inside.rows.indexed.slots.items) in
     let e = c.args.entry.now in
     let l = c.in-Some-last.last in
     let found = rw c.deref.ensures.value at c.in-Some.ensures.found in
@@ -87,7 +87,8 @@ give-requires g c =
     let at = stands loaders c.args.entry.now.loader c.in-Some.at found in
     let free = c.take.ensures.free.0 c.if-not-take.false in
     rw c.if-not-take.ensures.left
-    ((relocated c.self.inside.geometry (living c.self.inside.rows.slots.items) (living loaders)
+    ((relocated c.self.inside.geometry (living c.self.inside.rows.indexed.slots.items)
+    (living loaders)
     c.self.inside.pool c.args.entry.now at.place c.index.result.now.item c.in-Some-last.last
     c.self.invariant.0 (at-living loaders c.args.entry.now.loader c.in-Some.at found at)
     (same-kept loaders c.in-Some.at at c.index.result.now c.index.ensures) c.in-Some-last.is
@@ -105,7 +106,7 @@ move_rows-requires-clause-goes g c =
     let a = c.self.inside in
     let e = c.args.entry.now in
     let l = c.in-Some-last.last in
-    let slots = a.rows.slots.items in
+    let slots = a.rows.indexed.slots.items in
     let rows = living slots in
     let found = rw c.deref.ensures.value at c.in-Some.ensures.found in
     let loaders = a.loaders.slots.items in
@@ -127,7 +128,7 @@ move_rows-requires-clause-others g c =
     let a = c.self.inside in
     let e = c.args.entry.now in
     let l = c.in-Some-last.last in
-    let rows = living a.rows.slots.items in
+    let rows = living a.rows.indexed.slots.items in
     let found = rw c.deref.ensures.value at c.in-Some.ensures.found in
     let loaders = a.loaders.slots.items in
     let at = stands loaders e.loader c.in-Some.at found in
@@ -138,7 +139,8 @@ move_rows-requires-clause-others g c =
     let last_used = use-chunk e.loader (classes_in rows) l (sym (last_of-is e.loader rows)
     ∙ last) in
     let t = last_chunk-among e.loader (classes_in rows) l.chunk last_used.0 in
-    others-stay e.loader e.from e.to a.rows.slots.items t.0 c.self.invariant.0.live.founded t.1 t.2
+    others-stay e.loader e.from e.to a.rows.indexed.slots.items t.0 c.self.invariant.0.live.founded
+    t.1 t.2
     (t.3 ∙ room-from a.geometry l e (sym c.has_room.ensures ∙ c.if-not-has_room.false))
 
 pub returns-clause-left : goal.returns-clause-left
@@ -147,13 +149,13 @@ returns-clause-left g c =
     let e = c.args.entry.now in
     rw (← c.self.view_is)
     (ap (λ (l : List (Row g.row.P.Denot)). record { sizes = a.geometry; rows = l })
-    (ap living c.move_rows.ensures.slots ∙ living-moved e.from e.to a.rows.slots.items))
+    (ap living c.move_rows.ensures.slots ∙ living-moved e.from e.to a.rows.indexed.slots.items))
 
 pub invariant_of-self-2 : goal.invariant_of-self-2
 invariant_of-self-2 g c =
     let a = c.self.inside in
     let sizes = a.geometry in
-    let slots = a.rows.slots.items in
+    let slots = a.rows.indexed.slots.items in
     let rows = living slots in
     let p = a.pool in
     let e = c.args.entry.now in
@@ -167,22 +169,20 @@ invariant_of-self-2 g c =
     let o : Option LastChunk = Some (record { chunk = e.to; used = l.used }) in
     let x : LiveLoader = record { number = e.loader; last = o } in
     let new_rows : RowPlaces g.row.P.Denot = record {
-      slots = c.move_rows.new.slots;
+      indexed = record a.rows.indexed { slots = c.move_rows.new.slots };
       before = a.rows.before;
-      index = a.rows.index;
-      places = a.rows.places;
     } in
     let new_loaders : LoaderPlaces = record {
       slots = c.set_last.new.loaders;
       newest = a.loaders.newest;
     } in
-    let is : living new_rows.slots.items ≡ moved e.from e.to rows =
+    let is : living new_rows.indexed.slots.items ≡ moved e.from e.to rows =
     ap living c.move_rows.ensures.slots ∙ living-moved e.from e.to slots in
     let loaders_are : living new_loaders.slots.items ≡ set ls at.place x =
     ap (λ (k : List (BookSlot LiveLoader)). living k) c.set_last.ensures.loaders ∙ at.changed x in
     let roomier : vec_capacity a.loaders.slots ≤ vec_capacity new_loaders.slots =
     omega (arith, c.set_last.ensures.capacity) in
-    let as_long : length slots ≤ length new_rows.slots.items =
+    let as_long : length slots ≤ length new_rows.indexed.slots.items =
     omega (
       arith,
       ap length c.move_rows.ensures.slots,
@@ -196,7 +196,7 @@ invariant_of-self-2 g c =
           c.in-Some-last.is (sym c.has_room.ensures ∙ c.if-not-has_room.false) free).1,
       record {
         index = rw (c.move_rows.ensures.slots) (index-moved g.P.Kept.mark g.P.Kept.name e.from e.to
-            slots a.rows.index.items c.self.invariant.1.index);
+            slots a.rows.indexed.index.items c.self.invariant.1.index);
         unique = subst AreUnique (sym is) (unique-moved e.from e.to rows c.self.invariant.1.unique);
         room = c.self.invariant.1.room;
         places_room = c.self.invariant.1.places_room;
@@ -214,7 +214,7 @@ invariant_of-self-2 g c =
             before = omega arith;
             newest = omega arith;
           }),
-      loaders-set sizes a.loaders new_loaders (length slots) (length new_rows.slots.items)
+      loaders-set sizes a.loaders new_loaders (length slots) (length new_rows.indexed.slots.items)
           e.loader i o c.self.invariant.3 found.at c.set_last.ensures.loaders roomier as_long,
       c.self.invariant.4 ∙ sym (ap length is ∙ length-moved e.from e.to rows),
       c.self.invariant.5 ∙ sym (ap (λ l. slots_of_rows l) is ∙ slots-moved e.from e.to rows),
@@ -223,7 +223,7 @@ invariant_of-self-2 g c =
 pub returns-clause-broken : goal.returns-clause-broken
 returns-clause-broken g c =
     let sizes = c.self.inside.geometry in
-    let rows = (living c.self.inside.rows.slots.items) in
+    let rows = (living c.self.inside.rows.indexed.slots.items) in
     let e = c.args.entry.now in
     let found = rw c.deref.ensures.value at c.in-Some.ensures.found in
     let loaders = c.self.inside.loaders.slots.items in

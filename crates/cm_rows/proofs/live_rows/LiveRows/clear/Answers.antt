@@ -15,10 +15,12 @@ invariant_of-self g c =
     let none = c.clear.ensures.none in
     let no_loaders = c.clear-2.ensures.none in
     let room = c.clear.ensures.room (2 * row_limit a.geometry) (record {
-      slots = links.room;
+      indexed = record {
+        slots = links.room;
+        index = index.room;
+        places = index.places_room;
+      };
       before = links.before_room;
-      index = index.room;
-      places = index.places_room;
     }) in
     let loader_room = c.clear-2.ensures.room (2 * row_limit a.geometry) (record {
       slots = c.self.invariant.3.room;
@@ -27,7 +29,7 @@ invariant_of-self g c =
     let holds : PoolHolds a.geometry c.give_all.new.pool [] =
     subst (λ (s : Sizes). PoolHolds s c.give_all.new.pool []) h.live.holds.geometry
     c.give_all.ensures in (
-      rw (none.slots, no_loaders.slots) (record {
+      rw (none.indexed.slots, no_loaders.slots) (record {
         lawful = h.lawful;
         few = omega arith;
         loaders = record {
@@ -46,16 +48,17 @@ invariant_of-self g c =
         };
       }),
       record {
-        index = rw (none.index, none.slots) (index-none g.P.Kept.mark g.P.Kept.name);
-        unique = rw (none.slots) (record { names = λ r s m n e. absurd m });
-        room = room.index;
-        places_room = room.places;
+        index = rw (none.indexed.index, none.indexed.slots)
+            (index-none g.P.Kept.mark g.P.Kept.name);
+        unique = rw (none.indexed.slots) (record { names = λ r s m n e. absurd m });
+        room = room.indexed.index;
+        places_room = room.indexed.places;
       },
       record {
-        linked = rw (none.slots, none.before) linked-none;
+        linked = rw (none.indexed.slots, none.before) linked-none;
         lasts = rw (no_loaders.newest, no_loaders.slots) refl;
-        few = omega (arith, ap length none.slots);
-        room = room.slots;
+        few = omega (arith, ap length none.indexed.slots);
+        room = room.indexed.slots;
         before_room = room.before;
         newest_room = loader_room.newest;
       },
@@ -65,6 +68,6 @@ invariant_of-self g c =
         few = omega (arith, ap length no_loaders.slots);
         room = loader_room.slots;
       },
-      rw (none.slots) refl,
-      rw (none.slots) refl,
+      rw (none.indexed.slots) refl,
+      rw (none.indexed.slots) refl,
     )

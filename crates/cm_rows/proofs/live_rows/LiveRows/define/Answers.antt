@@ -30,7 +30,7 @@ pub returns-in-Some-clause-broken : goal.returns-in-Some-clause-broken
 returns-in-Some-clause-broken g c =
     let a = c.self.inside in
     rw (← c.self.view_is)
-    (broken a.geometry (living a.rows.slots.items) a.loaders.slots.items a.pool
+    (broken a.geometry (living a.rows.indexed.slots.items) a.loaders.slots.items a.pool
     c.place_class.new.pool c.args.row c.args.kept a.taken
     c.self.invariant.5 c.self.invariant.0 c.in-Some.rule
     (rw c.deref.ensures.value at c.in-Some.ensures.broken))
@@ -39,7 +39,7 @@ pub returns-clause-broken : goal.returns-clause-broken
 returns-clause-broken g c =
     let a = c.self.inside in
     rw (← c.self.view_is)
-    (keeps_all a.geometry (living a.rows.slots.items) a.loaders.slots.items a.pool
+    (keeps_all a.geometry (living a.rows.indexed.slots.items) a.loaders.slots.items a.pool
     c.place_class.new.pool c.args.row c.args.kept a.taken
     c.self.invariant.5 c.self.invariant.0
     (rw c.deref.ensures.value at c.in_default.ensures.placed))
@@ -50,7 +50,7 @@ make_room-requires-clause-few g c =
       arith,
       (c.in_default.ensures.placed).may.few,
       c.self.invariant.5,
-      rows-within (living c.self.inside.rows.slots.items),
+      rows-within (living c.self.inside.rows.indexed.slots.items),
     )
 
 pub overflow_add-self : goal.overflow_add-self
@@ -60,20 +60,21 @@ overflow_add-self g c =
       (c.in_default.ensures.placed).may.few,
       c.self.invariant.4,
       c.self.invariant.5,
-      rows-within (living c.self.inside.rows.slots.items),
+      rows-within (living c.self.inside.rows.indexed.slots.items),
       c.self.invariant.0.lawful.slots_to,
     )
 
 pub make_room-requires-clause-loaders_few : goal.make_room-requires-clause-loaders_few
 make_room-requires-clause-loaders_few g c =
     let a = c.self.inside in
-    loaders-fewer a.geometry (living a.rows.slots.items) (living a.loaders.slots.items) a.pool
+    loaders-fewer a.geometry (living a.rows.indexed.slots.items) (living a.loaders.slots.items)
+    a.pool
     c.self.invariant.0
 
 pub make_room-requires-clause-owned : goal.make_room-requires-clause-owned
 make_room-requires-clause-owned g c =
     let a = c.self.inside in
-    owned-rows a.geometry (living a.rows.slots.items) (living a.loaders.slots.items) a.pool
+    owned-rows a.geometry (living a.rows.indexed.slots.items) (living a.loaders.slots.items) a.pool
     c.self.invariant.0
 
 pub unwrap-here-requires : goal.unwrap-here-requires
@@ -84,10 +85,10 @@ unwrap-here-requires g c =
     c.args.row.loader p.at
     c.find.result p.may.kept c.make_room.ensures.living_loaders absent
 
-next : (g : Over) (c : After-push_row g) → living c.push_row.new.slots.items
-    ≡ living c.self.inside.rows.slots.items ++ Class c.args.row c.args.kept ∷ []
+next : (g : Over) (c : After-push_row g) → living c.push_row.new.self.slots.items
+    ≡ living c.self.inside.rows.indexed.slots.items ++ Class c.args.row c.args.kept ∷ []
 next g c =
-    ap living c.push_row.ensures.slots ∙ living-push c.make_room.new.rows.slots.items
+    ap living c.push_row.ensures.slots ∙ living-push c.make_room.new.rows.indexed.slots.items
     (record { item = Class c.args.row c.args.kept; live = true }) refl
     ∙ ap (λ l. l ++ Class c.args.row c.args.kept ∷ []) c.make_room.ensures.rows
 
@@ -110,7 +111,7 @@ pub invariant_of-self-2 : goal.invariant_of-self-2
 invariant_of-self-2 g c =
     let a = c.self.inside in
     let sizes = a.geometry in
-    let rows = living a.rows.slots.items in
+    let rows = living a.rows.indexed.slots.items in
     let loaders = a.loaders.slots.items in
     let ls = living loaders in
     let r = c.args.row in
@@ -119,10 +120,8 @@ invariant_of-self-2 g c =
     let there : RowPlaces g.row.P.Denot = c.make_room.new.rows in
     let left : LoaderPlaces = c.make_room.new.loaders in
     let new_rows : RowPlaces g.row.P.Denot = record {
-      slots = c.push_row.new.slots;
+      indexed = c.push_row.new.self;
       before = c.link.new.before;
-      index = c.push_row.new.index;
-      places = there.places;
     } in
     let new_loaders : LoaderPlaces = record {
       slots = c.set_last.new.loaders;
@@ -161,23 +160,23 @@ invariant_of-self-2 g c =
     omega (arith, c.set_last.ensures.capacity) in
     let newest_room : vec_capacity left.newest ≤ vec_capacity new_loaders.newest =
     omega (arith, c.link.ensures.newest_capacity) in
-    let at_end : c.len-next.result ≡ length there.slots.items =
-    omega (arith, c.len-next.ensures, there.slots.ok.0) in
-    let more : length there.slots.items ≤ length new_rows.slots.items =
+    let at_end : c.len-next.result ≡ length there.indexed.slots.items =
+    omega (arith, c.len-next.ensures, there.indexed.slots.ok.0) in
+    let more : length there.indexed.slots.items ≤ length new_rows.indexed.slots.items =
     omega (
       arith,
       ap length c.push_row.ensures.slots,
-      length-append there.slots.items
+      length-append there.indexed.slots.items
           (record { item = Class r k; live = true } ∷ []),
     ) in (
       rw (is, loaders_are)
           (defined sizes rows ls a.pool c.place_class.new.pool r k at_now.place l c.self.invariant.0
           few found_now is_now inside.1 takes),
       record {
-        index = rw (c.push_row.ensures.slots) c.push_row.ensures.index;
+        index = c.push_row.ensures.index;
         unique = subst AreUnique (sym is) (unique-class rows r k c.self.invariant.1.unique);
         room = omega (arith, m.index.room, c.push_row.ensures.index_room);
-        places_room = m.index.places_room;
+        places_room = omega (arith, m.index.places_room, ap vec_capacity c.push_row.ensures.places);
       },
       links-class sizes there new_rows left new_loaders r k here o m.links m.room m.loaders.rises
           kept_now.at
@@ -193,7 +192,8 @@ invariant_of-self-2 g c =
             before = c.link.ensures.capacity;
             newest = newest_room;
           }),
-      loaders-set sizes left new_loaders (length there.slots.items) (length new_rows.slots.items)
+      loaders-set sizes left new_loaders (length there.indexed.slots.items)
+          (length new_rows.indexed.slots.items)
           r.loader here o m.loaders kept_now.at c.set_last.ensures.loaders roomier more,
       omega (arith, c.self.invariant.4, ap length is, length-append rows (Class r k ∷ [])),
       omega (

@@ -6,5 +6,5 @@ pub returns : goal.returns
 returns g c =
     let i = c.self.inside in
     rw (← c.self.view_is)
-    (full-is i.geometry (living i.rows.slots.items) c.row_limit.result i.taken c.args.need
+    (full-is i.geometry (living i.rows.indexed.slots.items) c.row_limit.result i.taken c.args.need
     c.row_limit.ensures c.self.invariant.5 c.self.invariant.0.few)

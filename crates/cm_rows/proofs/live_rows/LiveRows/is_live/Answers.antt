@@ -22,7 +22,7 @@ by_find rows ls u None h found absent = sym (not_live rows (living ls) u h absen
 
 pub returns : goal.returns
 returns g c =
-    let rows = (living c.self.inside.rows.slots.items) in
+    let rows = (living c.self.inside.rows.indexed.slots.items) in
     let ls = c.self.inside.loaders.slots.items in
     let found = rw c.deref.ensures.value at c.find.ensures.found in
     let absent = rw c.deref.ensures.value at c.find.ensures.absent in

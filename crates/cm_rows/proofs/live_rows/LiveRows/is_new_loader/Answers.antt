@@ -21,11 +21,11 @@ without_room new true is = absurd (cc)
 pub returns-then-not-is_full : goal.returns-then-not-is_full
 returns-then-not-is_full g c =
     let sizes = c.self.inside.geometry in
-    let rows = living c.self.inside.rows.slots.items in
+    let rows = living c.self.inside.rows.indexed.slots.items in
     let row = c.args.row.now in
     let name = is_loader_name row.name && is_none (number_of row.name rows) in
     let new : c.is_new_loader_name.result ≡ name =
-    rw (c.as_bytes.ensures.value, c.deref.ensures.value) at c.is_new_loader_name.ensures in
+    rw c.as_bytes.ensures.value at c.is_new_loader_name.ensures in
     let left = sym (rw (← c.self.view_is) at c.is_full.ensures) ∙ c.if-not-is_full.true in
     rw (← c.self.view_is) (new ∙ with_room name (has_room sizes rows (Loader row))
     (room-left sizes rows row c.slots.result c.slots.ensures left))
@@ -33,7 +33,7 @@ returns-then-not-is_full g c =
 pub returns-else-not-is_full : goal.returns-else-not-is_full
 returns-else-not-is_full g c =
     let sizes = c.self.inside.geometry in
-    let rows = living c.self.inside.rows.slots.items in
+    let rows = living c.self.inside.rows.indexed.slots.items in
     let row = c.args.row.now in
     let name = is_loader_name row.name && is_none (number_of row.name rows) in
     let full = sym (rw (← c.self.view_is) at c.is_full.ensures) ∙ c.if-not-is_full.false in

@@ -18,7 +18,7 @@ told false x y F is means = by_test (x && y) refl
 pub returns-clause-unused : goal.returns-clause-unused
 returns-clause-unused g c =
     let s = c.self.inside in
-    let rows = living s.rows.slots.items in
+    let rows = living s.rows.indexed.slots.items in
     let chunk = c.args.chunk.now in
     rw (← c.self.view_is)
     (told c.is_free.result (is_chunk s.geometry chunk) (is_unused chunk rows) _

@@ -15,7 +15,7 @@ use Rattle.cm_rows.proofs.live_rows.LiveRows.last_kept.Goals as goal
 
 pub returns-in_err-at : goal.returns-in_err-at
 returns-in_err-at g c =
-    let rows = living c.self.inside.rows.slots.items in
+    let rows = living c.self.inside.rows.indexed.slots.items in
     let absent = rw c.deref.ensures.value at c.in_err-at.ensures.absent in
     let none : last_of c.args.number rows ≡ None =
     last-absent rows (living c.self.inside.loaders.slots.items) c.args.number
@@ -26,7 +26,7 @@ returns-in_err-at g c =
 pub returns-in_err-last : goal.returns-in_err-last
 returns-in_err-last g c =
     let a = c.self.inside in
-    let rows = living a.rows.slots.items in
+    let rows = living a.rows.indexed.slots.items in
     let ls = a.loaders.slots.items in
     let u = c.args.number in
     let found = rw c.deref.ensures.value at c.in_ok-at.ensures.found in
@@ -42,7 +42,7 @@ returns-in_err-last g c =
 pub from_newest-requires : goal.from_newest-requires
 from_newest-requires g c =
     let a = c.self.inside in
-    let slots = a.rows.slots.items in
+    let slots = a.rows.indexed.slots.items in
     let rows = living slots in
     let ls = a.loaders.slots.items in
     let u = c.args.number in
@@ -62,7 +62,7 @@ from_newest-requires g c =
 pub returns : goal.returns
 returns g c =
     let a = c.self.inside in
-    let slots = a.rows.slots.items in
+    let slots = a.rows.indexed.slots.items in
     let rows = living slots in
     let ls = a.loaders.slots.items in
     let u = c.args.number in

@@ -10,18 +10,19 @@ invariant_of-result g c =
     let no_loaders = c.in_ok-loaders.ensures.none in
     let loader_room = c.in_ok-loaders.ensures.room in
     let limit = c.row_limit-room.ensures in (
-      rw (none.slots, no_loaders.slots) (search rules),
+      rw (none.indexed.slots, no_loaders.slots) (search rules),
       record {
-        index = rw (none.index, none.slots) (index-none g.P.Kept.mark g.P.Kept.name);
-        unique = rw (none.slots) (record { names = λ r s m n e. absurd m });
-        room = omega (arith, room.index, limit);
-        places_room = omega (arith, room.places, limit);
+        index = rw (none.indexed.index, none.indexed.slots)
+            (index-none g.P.Kept.mark g.P.Kept.name);
+        unique = rw (none.indexed.slots) (record { names = λ r s m n e. absurd m });
+        room = omega (arith, room.indexed.index, limit);
+        places_room = omega (arith, room.indexed.places, limit);
       },
       record {
-        linked = rw (none.slots, none.before) linked-none;
+        linked = rw (none.indexed.slots, none.before) linked-none;
         lasts = rw (no_loaders.newest, no_loaders.slots) refl;
-        few = omega (arith, ap length none.slots);
-        room = omega (arith, room.slots, limit);
+        few = omega (arith, ap length none.indexed.slots);
+        room = omega (arith, room.indexed.slots, limit);
         before_room = omega (arith, room.before, limit);
         newest_room = omega (arith, loader_room.newest, limit);
       },
@@ -31,6 +32,6 @@ invariant_of-result g c =
         few = omega (arith, ap length no_loaders.slots);
         room = omega (arith, loader_room.slots, limit);
       },
-      rw (none.slots) refl,
-      rw (none.slots) refl,
+      rw (none.indexed.slots) refl,
+      rw (none.indexed.slots) refl,
     )

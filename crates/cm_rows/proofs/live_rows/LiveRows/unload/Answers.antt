@@ -23,7 +23,7 @@ use Rattle.cm_rows.proofs.live_rows.LiveRows.unload.Goals as goal
 
 pub returns-in_default-clause-broken : goal.returns-in_default-clause-broken
 returns-in_default-clause-broken g c =
-    let rows = living c.self.inside.rows.slots.items in
+    let rows = living c.self.inside.rows.indexed.slots.items in
     let absent = rw c.deref.ensures.value at c.in_default.ensures.absent in
     rw (← c.self.view_is) (on_rows-unless (is_live c.args.number rows)
     (not_live rows (living c.self.inside.loaders.slots.items) c.args.number
@@ -31,7 +31,7 @@ returns-in_default-clause-broken g c =
 
 pub returns-clause-broken : goal.returns-clause-broken
 returns-clause-broken g c =
-    let rows = living c.self.inside.rows.slots.items in
+    let rows = living c.self.inside.rows.indexed.slots.items in
     let found = rw c.deref.ensures.value at c.in-Some.ensures.found in
     let ls = c.self.inside.loaders.slots.items in
     let at = stands ls c.args.number c.in-Some.at found in
@@ -52,7 +52,7 @@ returns-clause-left g c =
     rw (← c.self.view_is)
     (ap (λ (l : List (Row g.row.P.Denot)). record { sizes = a.geometry; rows = l })
     (ap living c.unload_rows-gone.ensures.slots
-    ∙ living-unloaded c.args.number a.rows.slots.items))
+    ∙ living-unloaded c.args.number a.rows.indexed.slots.items))
 
 pub end-requires-clause-within : goal.end-requires-clause-within
 end-requires-clause-within g c =
@@ -75,7 +75,7 @@ pub invariant_of-self : goal.invariant_of-self
 invariant_of-self g c =
     let a = c.self.inside in
     let sizes = a.geometry in
-    let slots = a.rows.slots.items in
+    let slots = a.rows.indexed.slots.items in
     let rows = living slots in
     let loaders = a.loaders.slots.items in
     let ls = living loaders in
@@ -85,16 +85,14 @@ invariant_of-self g c =
     let unloads = c.unload_rows-gone.ensures in
     let p = c.unload_rows-gone.new.pool in
     let new_rows : RowPlaces g.row.P.Denot = record {
-      slots = c.unload_rows-gone.new.slots;
+      indexed = record a.rows.indexed { slots = c.unload_rows-gone.new.slots };
       before = a.rows.before;
-      index = a.rows.index;
-      places = a.rows.places;
     } in
     let new_loaders : LoaderPlaces = c.end.new.self in
     let kept = rw c.deref.ensures.value at c.in-Some.ensures.found in
     let at = stands loaders u i kept in
     let found = at-living loaders u i kept at in
-    let is : living new_rows.slots.items ≡ without_loader u rows = ap living unloads.slots
+    let is : living new_rows.indexed.slots.items ≡ without_loader u rows = ap living unloads.slots
     ∙ living-unloaded u slots in
     let linked = rw (c.deref-2.ensures.value) at unloads.linked in
     let given = rw (is) at unloads.holds in
@@ -109,12 +107,12 @@ invariant_of-self g c =
     let loaders_are : living new_loaders.slots.items ≡ remove ls at.place =
     ap (λ (k : List (BookSlot LiveLoader)). living k) e.slots_are
     ∙ living-end with e.count e.is_end.behind ∙ at.ended x in
-    let as_long : length slots ≤ length new_rows.slots.items =
+    let as_long : length slots ≤ length new_rows.indexed.slots.items =
     omega (arith, ap length unloads.slots, length-map slots (unloaded {P = g.row.P.Denot} u)) in (
       rw (is, loaders_are) (unload sizes rows ls a.pool p u at.place h found holds),
       record {
         index = rw (unloads.slots) (index-unloaded g.P.Kept.mark g.P.Kept.name u slots
-            a.rows.index.items c.self.invariant.1.unique c.self.invariant.1.index);
+            a.rows.indexed.index.items c.self.invariant.1.unique c.self.invariant.1.index);
         unique = subst AreUnique (sym is) (unique-without u rows c.self.invariant.1.unique);
         room = c.self.invariant.1.room;
         places_room = c.self.invariant.1.places_room;
@@ -126,7 +124,8 @@ invariant_of-self g c =
             before = omega arith;
             newest = omega (arith, c.end.ensures.newest_capacity);
           }),
-      loaders-ended sizes a.loaders new_loaders (length slots) (length new_rows.slots.items) u i
+      loaders-ended sizes a.loaders new_loaders (length slots) (length new_rows.indexed.slots.items)
+          u i
           c.self.invariant.3 kept.at e roomier as_long,
       omega (arith, unloads.rows, c.self.invariant.4),
       omega (arith, unloads.taken, c.self.invariant.5),

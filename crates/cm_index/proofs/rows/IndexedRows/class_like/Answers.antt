@@ -5,27 +5,28 @@ use Rattle.cm_index.specs.Index.{kept_in, rank, is_named}
 use Rattle.cm_index.specs.Sought.{name_sought}
 use Rattle.cm_index.specs.Living.{living}
 use Rattle.cm_index.proofs.Indexes.{class-first}
-use Rattle.cm_index.proofs.names.class_like.Goals as goal
+use Rattle.cm_index.proofs.rows.IndexedRows.class_like.Goals as goal
 
 pub returns-in_default : goal.returns-in_default
 returns-in_default g c =
-    let found = c.find_row.ensures
+    let found = (rw c.deref.ensures.value at c.find.ensures)
     ∙ ap (λ o. find (is_named g.P.Kept.name (rank o)
-    (name_sought g.P.Kept.name c.class.result.name)) (living c.args.slots.now))
-    c.class.ensures.owner
+    (name_sought g.P.Kept.name c.class-sought.result.name)) (living c.args.self.now.slots.items))
+    c.class-sought.ensures.owner
     ∙ ap (λ (x : List ℕ). find (is_named g.P.Kept.name (suc c.args.loader) x)
-    (living c.args.slots.now)) c.class.ensures.name in
+    (living c.args.self.now.slots.items)) c.class-sought.ensures.name in
     sym (class-first g.P.Kept.name c.args.loader (g.P.Kept.name c.args.class.now)
-    (living c.args.slots.now) ∙ ap kept_in (sym found ∙ ap option_copied c.in_default.is))
+    (living c.args.self.now.slots.items)
+    ∙ ap kept_in (sym found ∙ ap option_copied c.in_default.is))
 
 pub returns : goal.returns
 returns g c =
-    let found = c.find_row.ensures
+    let found = (rw c.deref.ensures.value at c.find.ensures)
     ∙ ap (λ o. find (is_named g.P.Kept.name (rank o)
-    (name_sought g.P.Kept.name c.class.result.name)) (living c.args.slots.now))
-    c.class.ensures.owner
+    (name_sought g.P.Kept.name c.class-sought.result.name)) (living c.args.self.now.slots.items))
+    c.class-sought.ensures.owner
     ∙ ap (λ (x : List ℕ). find (is_named g.P.Kept.name (suc c.args.loader) x)
-    (living c.args.slots.now)) c.class.ensures.name in
+    (living c.args.self.now.slots.items)) c.class-sought.ensures.name in
     c.value_in.ensures ∙ ap kept_in (sym (ap option_copied c.in-Some.is) ∙ found)
     ∙ sym (class-first g.P.Kept.name c.args.loader (g.P.Kept.name c.args.class.now)
-    (living c.args.slots.now))
+    (living c.args.self.now.slots.items))

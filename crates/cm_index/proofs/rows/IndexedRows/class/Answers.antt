@@ -5,26 +5,28 @@ use Rattle.cm_index.specs.Index.{kept_in, rank, is_named}
 use Rattle.cm_index.specs.Sought.{name_sought}
 use Rattle.cm_index.specs.Living.{living}
 use Rattle.cm_index.proofs.Indexes.{class-first}
-use Rattle.cm_index.proofs.names.class_in.Goals as goal
+use Rattle.cm_index.proofs.rows.IndexedRows.class.Goals as goal
 
 pub returns-in_default : goal.returns-in_default
 returns-in_default g c =
-    let found = c.find_row.ensures
+    let found = (rw c.deref.ensures.value at c.find.ensures)
     ∙ ap (λ o. find (is_named g.P.Kept.name (rank o)
-    (name_sought g.P.Kept.name c.of_name.result.name)) (living c.args.slots.now))
-    c.of_name.ensures.owner
+    (name_sought g.P.Kept.name c.of_name-sought.result.name)) (living c.args.self.now.slots.items))
+    c.of_name-sought.ensures.owner
     ∙ ap (λ (x : List ℕ). find (is_named g.P.Kept.name (suc c.args.loader) x)
-    (living c.args.slots.now)) c.of_name.ensures.name in
-    sym (class-first g.P.Kept.name c.args.loader c.args.name.now (living c.args.slots.now)
+    (living c.args.self.now.slots.items)) c.of_name-sought.ensures.name in
+    sym (class-first g.P.Kept.name c.args.loader c.args.name.now
+    (living c.args.self.now.slots.items)
     ∙ ap kept_in (sym found ∙ ap option_copied c.in_default.is))
 
 pub returns : goal.returns
 returns g c =
-    let found = c.find_row.ensures
+    let found = (rw c.deref.ensures.value at c.find.ensures)
     ∙ ap (λ o. find (is_named g.P.Kept.name (rank o)
-    (name_sought g.P.Kept.name c.of_name.result.name)) (living c.args.slots.now))
-    c.of_name.ensures.owner
+    (name_sought g.P.Kept.name c.of_name-sought.result.name)) (living c.args.self.now.slots.items))
+    c.of_name-sought.ensures.owner
     ∙ ap (λ (x : List ℕ). find (is_named g.P.Kept.name (suc c.args.loader) x)
-    (living c.args.slots.now)) c.of_name.ensures.name in
+    (living c.args.self.now.slots.items)) c.of_name-sought.ensures.name in
     c.value_in.ensures ∙ ap kept_in (sym (ap option_copied c.in-Some.is) ∙ found)
-    ∙ sym (class-first g.P.Kept.name c.args.loader c.args.name.now (living c.args.slots.now))
+    ∙ sym (class-first g.P.Kept.name c.args.loader c.args.name.now
+    (living c.args.self.now.slots.items))

@@ -5,19 +5,19 @@ use Rattle.cm_index.specs.Sought.{name_sought, key_sought}
 use Rattle.cm_index.specs.Blocks.{Entries, joined, place_of}
 use Rattle.cm_index.proofs.Indexes.{Found, absent-at}
 use Rattle.cm_index.proofs.Searching.{found-row}
-use Rattle.cm_index.proofs.index.find_row.Given.{Over}
-use Rattle.cm_index.proofs.index.find_row.Goals as goal
-use Rattle.cm_index.proofs.index.find_row.Goals.{After-entry_at-entry}
+use Rattle.cm_index.proofs.index.Index.find.Given.{Over}
+use Rattle.cm_index.proofs.index.Index.find.Goals as goal
+use Rattle.cm_index.proofs.index.Index.find.Goals.{After-entry_at-entry}
 
 pub returns-in_default : goal.returns-in_default
 returns-in_default g c =
     let slots = c.args.slots.now in
     let s = c.args.sought.now in
-    let bs = c.index.inside.blocks.items in
+    let bs = c.self.inside.blocks.items in
     let place = place_of bs c.in_default.field-0 in
     let index =
     subst (IsIndex g.P.Kept.mark g.P.Kept.name slots)
-    (ap (λ (v : Entries). v.items) (sym c.index.view_is)) c.requires.index in
+    (ap (λ (v : Entries). v.items) (sym c.self.view_is)) c.requires.index in
     let absent = rw (c.deref.ensures.value) at c.in_default.ensures.absent in
     let parts =
     subst (SplitsKeys (keys_at g.P.Kept.name slots (joined bs)) place) c.requires.key.is absent in
@@ -29,10 +29,10 @@ found : (g : Over) (c : After-entry_at-entry g)
     (rank c.args.sought.now.owner) (name_sought g.P.Kept.name c.args.sought.now.name)
 found g c =
     let s = c.args.sought.now in
-    let bs = c.index.inside.blocks.items in
+    let bs = c.self.inside.blocks.items in
     let index =
     subst (IsIndex g.P.Kept.mark g.P.Kept.name c.args.slots.now)
-    (ap (λ (v : Entries). v.items) (sym c.index.view_is)) c.requires.index in
+    (ap (λ (v : Entries). v.items) (sym c.self.view_is)) c.requires.index in
     let is = rw (c.deref.ensures.value) at c.in-Ok.ensures.found in
     let there =
     rw (c.deref-2.ensures.value) at (c.entry_at-entry.ensures c.entry_at-entry.result) in
