@@ -47,11 +47,7 @@ impl ClassRow {
         ensures only { (row : _) → FitsClass row → slot.now ≡ class_slot row → result ≡ Some row }
     {
         let row = ClassRow::at_its_places(slot);
-        if is_same_slot(&row.encode(), slot) {
-            Some(row)
-        } else {
-            None
-        }
+        is_same_slot(&row.encode(), slot).then_some(row)
     }
 
     // The fields found in a class's slot. Only encoding the row again shows whether it is one.

@@ -74,11 +74,7 @@ impl HalfHead {
         ensures only { (h : _) → FitsHalfHead h → slot.now ≡ half_head_slot h → result ≡ Some h }
     {
         let head = HalfHead::at_its_places(slot);
-        if is_same_slot(&head.encode(), slot) {
-            Some(head)
-        } else {
-            None
-        }
+        is_same_slot(&head.encode(), slot).then_some(head)
     }
 
     // The fields found in a head's slot. Only encoding the head again shows whether it is one.
@@ -115,11 +111,7 @@ impl GroupHead {
         ensures only { (h : _) → FitsGroupHead h → slot.now ≡ group_head_slot h → result ≡ Some h }
     {
         let head = GroupHead::at_its_places(slot);
-        if is_same_slot(&head.encode(), slot) {
-            Some(head)
-        } else {
-            None
-        }
+        is_same_slot(&head.encode(), slot).then_some(head)
     }
 
     // The fields found in a head's slot. Only encoding the head again shows whether it is one.

@@ -46,11 +46,7 @@ impl Move {
             → result ≡ Some entry }
     {
         let entry = Move::at_its_places(slot);
-        if is_same_slot(&entry.encode(), slot) {
-            Some(entry)
-        } else {
-            None
-        }
+        is_same_slot(&entry.encode(), slot).then_some(entry)
     }
 
     // The fields found in a move's slot. Only encoding the entry again shows whether it is one.

@@ -36,11 +36,7 @@ impl Unload {
             → result ≡ Some entry }
     {
         let entry = Unload::at_its_places(slot);
-        if is_same_slot(&entry.encode(), slot) {
-            Some(entry)
-        } else {
-            None
-        }
+        is_same_slot(&entry.encode(), slot).then_some(entry)
     }
 
     // The field found in an unload's slot. Only encoding the entry again shows whether it is one.

@@ -40,11 +40,7 @@ impl UnloadAll {
             → result ≡ Some entry }
     {
         let entry = UnloadAll::at_its_places(slot)?;
-        if is_same_slot(&entry.encode(), slot) {
-            Some(entry)
-        } else {
-            None
-        }
+        is_same_slot(&entry.encode(), slot).then_some(entry)
     }
 
     // The fields found in such a slot. Only encoding the entry again shows whether it is one.
