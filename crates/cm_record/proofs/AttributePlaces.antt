@@ -26,7 +26,7 @@ use Rattle.cm_record_layout.proofs.{all_runs, lay_len}
 use Rattle.cm_record_layout.proofs.{attributes_there, tail_joined, runs_there}
 use Rattle.cm_record_layout.specs.Tails.{of_fields, of_methods, methods_at, attributes_tail}
 use Rattle.cm_record.proofs.MemberPlaces.{item_there, twice_more, fits_there, methods_on}
-use Rattle.cm_record.proofs.MemberPlaces.{methods_have, fields_place, fields_count}
+use Rattle.cm_record.proofs.MemberPlaces.{methods_are, fields_place, fields_count}
 
 member_attributes_append : (xs ys : List ClassMember)
     → member_attributes (xs ++ ys) ≡ member_attributes xs ++ member_attributes ys
@@ -239,7 +239,7 @@ module _ (c : ClassFile) (words : List ℕ) (is : IsRecordOf c words) (i : ℕ) 
       let at = get_or words 5 0 + 2 * second_of (get_or words 2 0) in
       let here : place ≡ at + 2 * i = omega (arith, ep) in
       ap (λ n. fourth_of (get_or words n 0)) here
-      ∙ (methods_have c words is at (second_of (get_or words 2 0)) refl refl i own method).count
+      ∙ ((methods_are c words is _ _ refl refl).numbers i own method).count
 
   pub attributes_inside : attributes_place c i + 2 * length own.attributes ≤ length words
   attributes_inside = omega (arith, ap length is.laid, attributes_within c is.spelled i own method)

@@ -1,5 +1,5 @@
 -- The words of members, attributes and their runs, found in the words of a record.
--- For `Record::code`, `Record::field`, `Record::method`, `method_attributes`.
+-- For `Members::find`, `Record::code`, `Record::field`, `Record::method`, `method_attributes`.
 use Rattle.std.proofs.Common.{◌≡◌, ◌<◌, ◌≤◌, ◌+◌, ◌*◌, ℕ, zero, suc, Bool, false, List, [], ◌∷◌}
 use Rattle.std.proofs.Common.{◌++◌, length, drop, get_or, slice_get, Some, refl, sym, ◌∙◌, ap}
 use Rattle.std.proofs.Common.{subst, arith, length-append, append_assoc, get_or-drop, drop-drop}
@@ -11,7 +11,8 @@ use Rattle.cm_class.specs.Spelling.{HasSpelling, MemberFits}
 use Rattle.cm_record_layout.specs.Packing.{four_numbers, first_of, second_of, third_of, fourth_of}
 use Rattle.cm_record_layout.specs.Layout.{lay, directory, members, members_at, attributes_at}
 use Rattle.cm_record_layout.specs.Layout.{runs_at, IsRecordOf}
-use Rattle.cm_record.specs.Members.{leads_to, has_both, IsFirstIndex, IsLeastMember}
+use Rattle.cm_record.specs.Members.{leads_to, has_both, HasNumbers, AreMembersAt}
+use Rattle.cm_record.specs.Members.{IsFirstIndex, IsLeastMember}
 use Rattle.cm_record_layout.proofs.{first-four_numbers, second-four_numbers, third-four_numbers}
 use Rattle.cm_record_layout.proofs.{fourth-four_numbers, all_members_len, members_len}
 use Rattle.cm_record_layout.proofs.{directory_len, lay_len, main_there}
@@ -56,13 +57,6 @@ pub item_there : {A : Type 0} (xs : List A) (j : ℕ) → j < length xs → (x :
 item_there [] j h = absurd (omega arith)
 item_there (x ∷ xs) zero h = (x, refl)
 item_there (x ∷ xs) (suc j) h = item_there xs j (omega arith)
-
--- the numbers in a member's word
-pub record HasNumbers (word : ℕ) (m : ClassMember) : Type 0 where
-  pub flags : first_of word ≡ m.flags
-  pub name : second_of word ≡ m.name
-  pub descriptor : third_of word ≡ m.descriptor
-  pub count : fourth_of word ≡ length m.attributes
 
 numbers_of : (word : ℕ) (m : ClassMember) → MemberFits m
     → word ≡ four_numbers m.flags m.name m.descriptor (length m.attributes) → HasNumbers word m
@@ -132,23 +126,18 @@ word_test c name descriptor words at k =
     leads_to c name descriptor (second_of (get_or words (at + 2 * k) 0))
     (third_of (get_or words (at + 2 * k) 0))
 
-abbrev pub HaveNumbers : List ℕ → ℕ → List ClassMember → Type 0
-HaveNumbers words at all = (j : ℕ) (m : ClassMember) → slice_get all j ≡ Some m
-    → HasNumbers (get_or words (at + 2 * j) 0) m
-
 module _ (c : ClassFile) (words : List ℕ) (at count : ℕ) (all : List ClassMember)
-    (name descriptor : List ℕ) (numbers : HaveNumbers words at all)
-    (size : count ≡ length all) where
+    (name descriptor : List ℕ) (these : AreMembersAt words at count all) where
   same_test : (j : ℕ) (m : ClassMember) → slice_get all j ≡ Some m
       → word_test c name descriptor words at j ≡ has_both c name descriptor m
   same_test j m e = let n =
-      numbers j m e in λ i. leads_to c name descriptor (n.name i) (n.descriptor i)
+      these.numbers j m e in λ i. leads_to c name descriptor (n.name i) (n.descriptor i)
 
   pub none_found : ((k : ℕ) → k < count → word_test c name descriptor words at k ≡ false)
       → (k : ℕ) (other : ClassMember) → slice_get all k ≡ Some other
       → has_both c name descriptor other ≡ false
   none_found none k other e =
-      sym (same_test k other e) ∙ none k (omega (arith, index_there all k other e, size))
+      sym (same_test k other e) ∙ none k (omega (arith, index_there all k other e, these.size))
 
   pub least_found : (is_method : Bool) (index : ℕ)
       → IsFirstIndex (word_test c name descriptor words at) count index
@@ -162,8 +151,8 @@ module _ (c : ClassFile) (words : List ℕ) (at count : ℕ) (all : List ClassMe
       })
   least_found is_method index first =
       let within = first.there in
-      let own = item_there all index (omega (arith, within, size)) in
-      let n = numbers index own.0 own.1 in
+      let own = item_there all index (omega (arith, within, these.size)) in
+      let n = these.numbers index own.0 own.1 in
       record {
         kind = refl;
         own = own.0;
@@ -184,16 +173,25 @@ module _ (c : ClassFile) (words : List ℕ) (is : IsRecordOf c words) where
   pub methods_count : third_of (get_or words 2 0) ≡ length c.methods
   methods_count = ap (λ w. third_of (get_or w 2 0)) is.laid ∙ methods_there c is.spelled
 
-  pub fields_have : (at : ℕ) → at ≡ get_or words 5 0 → HaveNumbers words at c.fields
-  fields_have at ea j m e = subst
-      (λ (w : List ℕ). HasNumbers (get_or w (at + 2 * j) 0) m) (sym is.laid)
-      (field_numbers c is.spelled at j m (ea ∙ fields_place) e)
+  pub fields_are : (count : ℕ) → count ≡ second_of (get_or words 2 0)
+      → AreMembersAt words (get_or words 5 0) count c.fields
+  fields_are count e = record {
+    size = e ∙ fields_count;
+    numbers = λ j m em.
+        subst (λ (w : List ℕ). HasNumbers (get_or w (get_or words 5 0 + 2 * j) 0) m) (sym is.laid)
+        (field_numbers c is.spelled (get_or words 5 0) j m fields_place em);
+  }
 
-  pub methods_have : (at fields : ℕ) → at ≡ get_or words 5 0 + 2 * fields
-      → fields ≡ second_of (get_or words 2 0) → HaveNumbers words at c.methods
-  methods_have at fields ea ef j m e =
-      subst (λ (w : List ℕ). HasNumbers (get_or w (at + 2 * j) 0) m) (sym is.laid)
-      (method_numbers c is.spelled at j m (omega (arith, ea, ef, fields_place, fields_count)) e)
+  pub methods_are : (fields count : ℕ) → fields ≡ second_of (get_or words 2 0)
+      → count ≡ third_of (get_or words 2 0)
+      → AreMembersAt words (get_or words 5 0 + 2 * fields) count c.methods
+  methods_are fields count ef e = record {
+    size = e ∙ methods_count;
+    numbers = λ j m em.
+        let at = get_or words 5 0 + 2 * fields in
+        subst (λ (w : List ℕ). HasNumbers (get_or w (at + 2 * j) 0) m) (sym is.laid)
+        (method_numbers c is.spelled at j m (omega (arith, ef, fields_place, fields_count)) em);
+  }
 
   pub members_fit : get_or words 5 0 + 2 * second_of (get_or words 2 0)
       + 2 * third_of (get_or words 2 0) ≤ length words

@@ -1,10 +1,11 @@
 -- Fields and methods, found by name and descriptor.
-use Rattle.std.specs.Prelude.{◌≡◌, ℕ, ◌<◌, ◌^◌, Bool, true, false, ◌&&◌, List, length, slice_get}
-use Rattle.std.specs.Prelude.{get_or, Option, Some, None}
+use Rattle.std.specs.Prelude.{◌≡◌, ℕ, ◌+◌, ◌*◌, ◌<◌, ◌^◌, Bool, true, false, ◌&&◌, List, length}
+use Rattle.std.specs.Prelude.{slice_get, get_or, Option, Some, None}
 use Rattle.cm_class.specs.declared.class_file.Member.{Member as ClassMember}
 use Rattle.cm_class.specs.declared.class_file.ClassFile.{ClassFile}
 use Rattle.cm_class.specs.Names.{names_utf8}
 use Rattle.cm_record_layout.specs.Layout.{IsRecordOf}
+use Rattle.cm_record_layout.specs.Packing.{first_of, second_of, third_of, fourth_of}
 use Rattle.cm_record.specs.declared.member.Member.{Member}
 
 -- the indexes lead to Utf8s of these bytes
@@ -20,6 +21,19 @@ AreMarksOf words bytes leads = (c : ClassFile) → IsRecordOf c words → (index
 -- the member has this name and this descriptor
 abbrev pub has_both : ClassFile → List ℕ → List ℕ → ClassMember → Bool
 has_both c name descriptor m = leads_to c name descriptor m.name m.descriptor
+
+-- the numbers in a member's word
+pub record HasNumbers (word : ℕ) (m : ClassMember) : Type 0 where
+  pub flags : first_of word ≡ m.flags
+  pub name : second_of word ≡ m.name
+  pub descriptor : third_of word ≡ m.descriptor
+  pub count : fourth_of word ≡ length m.attributes
+
+-- the words from a place on are those of these members, two each
+pub record AreMembersAt (words : List ℕ) (at count : ℕ) (all : List ClassMember) : Type 0 where
+  pub size : count ≡ length all
+  pub numbers : (j : ℕ) (m : ClassMember) → slice_get all j ≡ Some m
+      → HasNumbers (get_or words (at + 2 * j) 0) m
 
 -- the test holds at the index, and at none before it
 pub record IsFirstIndex (test : ℕ → Bool) (count index : ℕ) : Type 0 where

@@ -20,13 +20,13 @@ ghost use Rattle.cm_class.specs.declared.class_file.Attribute.{Attribute};
 use crate::code::{Attributes, Code, attribute_run, code_in_run, find_code, method_attributes};
 use crate::constant::{Utf8Place, constant_at_index};
 use crate::fingerprints::run_fingerprint;
-use crate::member::{Member, find_member};
+use crate::member::{Member, Members};
 use crate::names::name_run;
 use crate::order::{cmp_run_to, cmp_runs};
 use crate::run::{Run, is_same_run, run_bytes};
 use cm_class::{Class, Constant, class_of_spelling};
 use cm_record_layout::{
-    HEAD_CLASS, HEAD_COUNTS, HEAD_MEMBERS_AT, bytes_tell_words, first, fourth, second, third,
+    HEAD_CLASS, HEAD_COUNTS, HEAD_MEMBERS_AT, bytes_tell_words, first, second, third,
 };
 use cm_record_reading::{RecordFault, is_record, spell_class};
 use cm_record_writing::{RecordRefusal, write_class};
@@ -219,20 +219,12 @@ impl Record {
             → FindsMember c c.fields false name.now descriptor.now result }
     {
         let words = self.as_slice();
-        let (at, count) = (
-            words[HEAD_MEMBERS_AT] as usize,
-            second(words[HEAD_COUNTS]) as usize,
-        );
-        let Some(index) = find_member(words, at, count, name, descriptor) else {
-            return None;
-        };
-        let word = words[at + 2 * index];
-        Some(Member {
+        let fields = Members {
             is_method: false,
-            index: index as u16,
-            flags: first(word),
-            attributes: fourth(word),
-        })
+            at: words[HEAD_MEMBERS_AT] as usize,
+            count: second(words[HEAD_COUNTS]),
+        };
+        fields.find(words, name, descriptor)
     }
 
     /// The first method that has this name and this descriptor, found as [`Record::field`] finds
@@ -243,20 +235,12 @@ impl Record {
     {
         let words = self.as_slice();
         let fields = second(words[HEAD_COUNTS]) as usize;
-        let (at, count) = (
-            words[HEAD_MEMBERS_AT] as usize + 2 * fields,
-            third(words[HEAD_COUNTS]) as usize,
-        );
-        let Some(index) = find_member(words, at, count, name, descriptor) else {
-            return None;
-        };
-        let word = words[at + 2 * index];
-        Some(Member {
+        let methods = Members {
             is_method: true,
-            index: index as u16,
-            flags: first(word),
-            attributes: fourth(word),
-        })
+            at: words[HEAD_MEMBERS_AT] as usize + 2 * fields,
+            count: third(words[HEAD_COUNTS]),
+        };
+        methods.find(words, name, descriptor)
     }
 
     /// Where the code of a method is. `None` for a field, if there is no such method, if it has no
