@@ -13,30 +13,8 @@ module _ (c : ClassFile) where
   field_anywhere : (rule : Rule) → (rule ≡ rules.FieldTwice → ⊥) → (i : ℕ) (m : Member)
       → field_constraint rule c m ≡ field_rule rule c i m
   unfolding field_rule
-  field_anywhere rules.Utf8Form other i m = refl
-  field_anywhere rules.EntryKinds other i m = refl
-  field_anywhere rules.HandleKind other i m = refl
-  field_anywhere rules.ClassName other i m = refl
-  field_anywhere rules.FieldReference other i m = refl
-  field_anywhere rules.MethodReference other i m = refl
-  field_anywhere rules.DynamicCall other i m = refl
-  field_anywhere rules.MethodType other i m = refl
-  field_anywhere rules.HandleName other i m = refl
-  field_anywhere rules.ClassFlags other i m = refl
-  field_anywhere rules.ThisClass other i m = refl
-  field_anywhere rules.SuperClass other i m = refl
-  field_anywhere rules.FieldName other i m = refl
-  field_anywhere rules.FieldFlags other i m = refl
   field_anywhere rules.FieldTwice other i m = absurd (other refl)
-  field_anywhere rules.MethodName other i m = refl
-  field_anywhere rules.MethodUnits other i m = refl
-  field_anywhere rules.MethodFlags other i m = refl
-  field_anywhere rules.MethodTwice other i m = refl
-  field_anywhere rules.CodeCount other i m = refl
-  field_anywhere rules.CodeForm other i m = refl
-  field_anywhere rules.MemberAttributes other i m = refl
-  field_anywhere rules.ClassAttributes other i m = refl
-  field_anywhere rules.BootstrapMethods other i m = refl
+  field_anywhere _ other i m = refl
 
   pub field_elsewhere : (rule : Rule) → (rule ≡ rules.FieldTwice → ⊥)
       → first_failing (λ _ m. field_constraint rule c m) 0 c.fields ≡ field_failing c rule
@@ -46,30 +24,8 @@ module _ (c : ClassFile) where
   method_anywhere : (rule : Rule) → (rule ≡ rules.MethodTwice → ⊥) → (i : ℕ) (m : Member)
       → method_constraint rule c m ≡ method_rule rule c i m
   unfolding method_rule
-  method_anywhere rules.Utf8Form other i m = refl
-  method_anywhere rules.EntryKinds other i m = refl
-  method_anywhere rules.HandleKind other i m = refl
-  method_anywhere rules.ClassName other i m = refl
-  method_anywhere rules.FieldReference other i m = refl
-  method_anywhere rules.MethodReference other i m = refl
-  method_anywhere rules.DynamicCall other i m = refl
-  method_anywhere rules.MethodType other i m = refl
-  method_anywhere rules.HandleName other i m = refl
-  method_anywhere rules.ClassFlags other i m = refl
-  method_anywhere rules.ThisClass other i m = refl
-  method_anywhere rules.SuperClass other i m = refl
-  method_anywhere rules.FieldName other i m = refl
-  method_anywhere rules.FieldFlags other i m = refl
-  method_anywhere rules.FieldTwice other i m = refl
-  method_anywhere rules.MethodName other i m = refl
-  method_anywhere rules.MethodUnits other i m = refl
-  method_anywhere rules.MethodFlags other i m = refl
   method_anywhere rules.MethodTwice other i m = absurd (other refl)
-  method_anywhere rules.CodeCount other i m = refl
-  method_anywhere rules.CodeForm other i m = refl
-  method_anywhere rules.MemberAttributes other i m = refl
-  method_anywhere rules.ClassAttributes other i m = refl
-  method_anywhere rules.BootstrapMethods other i m = refl
+  method_anywhere _ other i m = refl
 
   pub method_elsewhere : (rule : Rule) → (rule ≡ rules.MethodTwice → ⊥)
       → first_failing (λ _ m. method_constraint rule c m) 0 c.methods ≡ method_failing c rule

@@ -1,5 +1,6 @@
 //! The first spot at which a class breaks a rule.
-ghost use Rattle.std.specs.Prelude.{◌≡◌, ◌+◌, ◌<◌, ◌^◌, false, true, IfSome};
+ghost use Rattle.std.specs.Prelude.{◌≡◌, ◌≤◌, ◌<◌, ◌+◌, ◌^◌, Bool, false, true, length, IfSome};
+ghost use Rattle.std.specs.Fn.{FnReturnsAt};
 ghost use Rattle.cm_class.specs.declared.class_file.ClassFile.{ClassFile};
 ghost use Rattle.cm_class.specs.Spelling.{ClassConstant};
 ghost use Rattle.cm_duplicates.specs.Duplicates.{first_failing};
@@ -15,40 +16,40 @@ use crate::rules::{
     this_rule,
 };
 
-fn first_slot(findings: &Findings, rule: Rule) -> Option<u16>
-    ensures place { result ≡ slot_failing findings.now.class.now rule }
-    ensures within { IfSome result (λ place. place + 1 < 2 ^ 16) }
+/// The place of the first item that fails a test.
+fn first_failing<T, F: Fn(&T) -> bool>(items: &[T], passes: F) -> Option<u16>
+    requires callable { F.IsAlwaysCallable passes }
+    requires short { length items.now ≤ 2 ^ 16 }
+    ensures place { (test : T → Bool)
+        → ((item : T) (r : Bool) → FnReturnsAt F.Fn passes item r → r ≡ test item)
+        → result ≡ first_failing (λ _ item. test item) 0 items.now }
+    ensures within { IfSome result (λ place. place < length items.now) }
 {
-    for (place, item) in findings.class.slots().iter().enumerate() {
-        if !slot_rule(findings, rule, item) {
+    for (place, item) in items.iter().enumerate() {
+        if !passes(item) {
             return Some(place as u16);
         }
     }
     None
+}
+
+fn first_slot(findings: &Findings, rule: Rule) -> Option<u16>
+    ensures place { result ≡ slot_failing findings.now.class.now rule }
+    ensures within { IfSome result (λ place. place + 1 < 2 ^ 16) }
+{
+    first_failing(
+        findings.class.slots(),
+        |slot| slot_rule(findings, rule, slot),
+    )
 }
 
 fn first_interface(findings: &Findings, rule: Rule) -> Option<u16>
     ensures { result ≡ interface_failing findings.now.class.now rule }
 {
-    for (place, item) in findings.class.interfaces().iter().enumerate() {
-        if !interface_rule(findings, rule, *item) {
-            return Some(place as u16);
-        }
-    }
-    None
-}
-
-fn first_field_by_itself(findings: &Findings, rule: Rule) -> Option<u16>
-    ensures { result
-        ≡ first_failing (λ _ m. field_constraint rule findings.now.class.now m) 0
-        findings.now.class.now.fields }
-{
-    for (place, item) in findings.class.fields().iter().enumerate() {
-        if !field_constraint(findings, rule, item) {
-            return Some(place as u16);
-        }
-    }
-    None
+    first_failing(
+        findings.class.interfaces(),
+        |index| interface_rule(findings, rule, *index),
+    )
 }
 
 fn first_field(findings: &Findings, rule: Rule) -> Option<u16>
@@ -56,21 +57,10 @@ fn first_field(findings: &Findings, rule: Rule) -> Option<u16>
 {
     match rule {
         Rule::FieldTwice => findings.duplicate_field,
-        _ => first_field_by_itself(findings, rule),
+        _ => first_failing(findings.class.fields(), |field| {
+            field_constraint(findings, rule, field)
+        }),
     }
-}
-
-fn first_method_by_itself(findings: &Findings, rule: Rule) -> Option<u16>
-    ensures { result
-        ≡ first_failing (λ _ m. method_constraint rule findings.now.class.now m) 0
-        findings.now.class.now.methods }
-{
-    for (place, item) in findings.class.methods().iter().enumerate() {
-        if !method_constraint(findings, rule, item) {
-            return Some(place as u16);
-        }
-    }
-    None
 }
 
 fn first_method(findings: &Findings, rule: Rule) -> Option<u16>
@@ -78,7 +68,9 @@ fn first_method(findings: &Findings, rule: Rule) -> Option<u16>
 {
     match rule {
         Rule::MethodTwice => findings.duplicate_method,
-        _ => first_method_by_itself(findings, rule),
+        _ => first_failing(findings.class.methods(), |method| {
+            method_constraint(findings, rule, method)
+        }),
     }
 }
 

@@ -1,4 +1,6 @@
-use Rattle.std.proofs.Common.{◌∙◌}
+use Rattle.std.proofs.Common.{◌∙◌, ap, rules}
+use Rattle.cm_duplicates.specs.Duplicates.{first_failing}
+use Rattle.cm_rules.specs.Fault.{field_constraint}
 use Rattle.cm_rules.proofs.Elsewhere.{field_elsewhere, field_twice}
 use Rattle.cm_rules.proofs.search.first_field.Goals as goal
 
@@ -9,5 +11,8 @@ returns-in-FieldTwice c =
 
 pub returns-in_default : goal.returns-in_default
 returns-in_default c =
-    c.first_field_by_itself.ensures ∙ field_elsewhere c.args.findings.now.class.now c.args.rule
-    c.in_default.not-FieldTwice
+    let class = c.args.findings.now.class.now in
+    let test = field_constraint c.args.rule class in
+    c.first_failing.ensures.place test (λ item r ran. search rules)
+    ∙ ap (first_failing (λ i m. test m) 0) c.fields.ensures
+    ∙ field_elsewhere class c.args.rule c.in_default.not-FieldTwice
