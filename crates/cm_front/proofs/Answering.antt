@@ -27,11 +27,11 @@ use Rattle.cm_layout.specs.Rules.{broken_rule, is_live, are_live, differ}
 use Rattle.cm_rows.specs.Rows.{LiveRows, is_above}
 use Rattle.cm_pool.specs.FreeSpace.{IsFreeSpace}
 use Rattle.cm_space.specs.Space.{SpaceState, WaitingChunks, IsKnown, arena_of, with_arena}
-use Rattle.cm_space.specs.Space.{left_by, left_by_all}
 use Rattle.cm_pool.specs.declared.place.Place.{Place}
 use Rattle.cm_space.specs.Ownership.{IsSpace}
 use Rattle.cm_state.specs.Step.{Change, Define, Unload, Tighten, UnloadAll}
-use Rattle.cm_state.specs.Entries.{change_of}
+use Rattle.cm_state.specs.State.{words_show}
+use Rattle.cm_state.specs.Entries.{MayFollow, change_of}
 use Rattle.cm_state.specs.Laws.{EntriesAreSteps}
 use Rattle.cm_commands.specs.declared.refusal.Refusal.{Refusal}
 use Rattle.cm_commands.specs.declared.refusal.Refusal.TheVariants as refusal
@@ -42,7 +42,6 @@ use Rattle.cm_front.specs.Accepting.{joined_by, SpaceAfter, refusal_of_chunk}
 use Rattle.cm_front.specs.Refusing.{class_asked, refusal_of_place}
 use Rattle.cm_front.specs.Laws.{PlacesKeepRules}
 use Rattle.cm_front.proofs.GoingsClass.{name_is, number_lives, keeps_class}
-use Rattle.cm_front.proofs.GoingsUnload.{keeps_unload, keeps_unload_all}
 use Rattle.cm_front.proofs.NameNumbers.{are_found}
 use Rattle.cm_front.proofs.Causes.{IsMade, IsAsked, AreAsked, IsFree, refused}
 use Rattle.cm_front.proofs.RowFacts.{all_below}
@@ -140,13 +139,14 @@ pub given : {X : Type 0} (s new : FrontState) (change : Change (List ℕ)) (a : 
 given s new change a k n first is room accepts = (first ∙ ap refused is, room, accepts)
 
 pub accepts : (s new : FrontState) (change : Change (List ℕ)) (n : ℕ) (e : Entry (List ℕ))
-    (space : SpaceState) → n ≡ s.number + 1 → Keeps s e space → SpaceAfter s e space
-    → new ≡ accepted s e space → change_of s.rows e ≡ Some change → FrontAccepts s change n new
-accepts s new change n e space is keeps after new_is some = record {
+    (space : SpaceState) → n ≡ s.number + 1 → MayFollow words_show s.sizes s.number s.rows e
+    → SpaceAfter s e space → new ≡ accepted s e space → change_of s.rows e ≡ Some change
+    → FrontAccepts s change n new
+accepts s new change n e space is may after new_is some = record {
   number = is;
   entry = e;
   change_is = some;
-  may = keeps.may;
+  may = may;
   space = subst (λ (t : FrontState). SpaceAfter s e t.space) (sym new_is) after;
   after = new_is ∙ λ i. accepted s e (space_of i);
 }
@@ -156,25 +156,25 @@ accepts s new change n e space is keeps after new_is some = record {
 
 -- ---- the cache with one more entry
 
-pub record Went (s : FrontState) (change : Change (List ℕ)) (n : ℕ)
+-- with whatever the entry preserves it is an accepted cache again
+pub record Followed (s : FrontState) (e : Entry (List ℕ)) (left : SpaceState)
     (new : FrontState) : Type 0 where
   pub front : IsFront new
-  pub accepts : FrontAccepts s change n new
+  pub after : new ≡ accepted s e left
 
-pub went_all : EntriesAreSteps (List ℕ) → (book next : LiveRows (List ℕ)) (space left : SpaceState)
+pub followed : EntriesAreSteps (List ℕ) → (book next : LiveRows (List ℕ)) (space left : SpaceState)
     (old mid new : WaitingGroups) (number n sealed learnt : ℕ) (broken closed : Bool)
-    (e : Entry (List ℕ)) (change : Change (List ℕ)) (o : Option EntryRule)
+    (e : Entry (List ℕ)) (o : Option EntryRule)
     → IsFront (front_of book space old number sealed learnt broken closed)
     → number < 2 ^ 63 → n ≡ number + 1
     → Keeps (front_of book space old number sealed learnt broken closed) e left
-    → SpaceAfter (front_of book space old number sealed learnt broken closed) e left
-    → change_of book.rows e ≡ Some change → o ≡ broken_rule book.sizes book.rows n e
+    → o ≡ broken_rule book.sizes book.rows n e
     → next ≡ cond (is_none o) (record { sizes = book.sizes; rows = rows_after book.rows e }) book
     → mid.groups ≡ old.groups → new.groups ≡ joined_by n mid.groups (carried book.rows e)
-    → Went (front_of book space old number sealed learnt broken closed) change n
+    → Followed (front_of book space old number sealed learnt broken closed) e left
     (front_of next left new n sealed learnt broken closed)
-went_all steps book next space left old mid new number n sealed learnt broken closed e change o
-    f below is keeps after some rule rows same groups =
+followed steps book next space left old mid new number n sealed learnt broken closed e o
+    f below is keeps rule rows same groups =
     let s : FrontState = front_of book space old number sealed learnt broken closed in
     let none : o ≡ None =
     rule ∙ ap (λ k. broken_rule book.sizes book.rows k e) is ∙ keeps.may.keeps in
@@ -186,10 +186,22 @@ went_all steps book next space left old mid new number n sealed learnt broken cl
     joined is in
     record {
       front = subst IsFront (sym whole) (goes_on steps s e left f below keeps);
-      accepts =
-          accepts s (front_of next left new n sealed learnt broken closed) change n e left is
-          keeps after whole some;
+      after = whole;
     }
+
+-- and if the space is the entry's too, what was asked is accepted
+pub record Went (s : FrontState) (change : Change (List ℕ)) (n : ℕ)
+    (new : FrontState) : Type 0 where
+  pub front : IsFront new
+  pub accepts : FrontAccepts s change n new
+
+pub went : (s new : FrontState) (change : Change (List ℕ)) (n : ℕ) (e : Entry (List ℕ))
+    (left : SpaceState) → n ≡ s.number + 1 → Keeps s e left → SpaceAfter s e left
+    → change_of s.rows e ≡ Some change → Followed s e left new → Went s change n new
+went s new change n e left is keeps after some f = record {
+  front = f.front;
+  accepts = accepts s new change n e left is keeps.may after f.after some;
+}
 
 -- ---- a loader
 
@@ -211,25 +223,6 @@ pub last_of_all : (learnt n : ℕ) (ws : List WaitingChunks) → AllByRecursion 
 last_of_all learnt n [] h = tt
 last_of_all learnt n (w ∷ ws) h =
     let to = h.0.to in (omega (arith, to), last_of_all learnt n ws h.1)
-
-pub unload_keeps : LoadersAreOwn → (s : FrontState) (x : List ℕ) (u : ℕ) (left : SpaceState)
-    → IsFront s → IsAsked s x u → left ≡ left_by s.space (s.number + 1) u → IsSpace left
-    → IsFreeSpace left.pool → Keeps s (entry.Unload (record { loader = u })) left
-unload_keeps own s x u left f asked is space free =
-    let base = subst IsSpace is space in
-    let pool = subst (λ (t : SpaceState). IsFreeSpace t.pool) is free in
-    subst (λ t. Keeps s (entry.Unload (record { loader = u })) t) (sym is)
-    (keeps_unload own s x u f asked base pool)
-
-pub unload_all_keeps : LoadersAreOwn → (s : FrontState) (xs : List (List ℕ)) (us : List ℕ)
-    (left : SpaceState)
-    → IsFront s → AreAsked s xs us → left ≡ left_by_all s.space (s.number + 1) us → IsSpace left
-    → IsFreeSpace left.pool → Keeps s (entry.UnloadAll (record { loaders = us })) left
-unload_all_keeps own s xs us left f asked is space free =
-    let base = subst IsSpace is space in
-    let pool = subst (λ (t : SpaceState). IsFreeSpace t.pool) is free in
-    subst (λ t. Keeps s (entry.UnloadAll (record { loaders = us })) t) (sym is)
-    (keeps_unload_all own s xs us f asked base pool)
 
 pub unload_asked : LoadersAreOwn → (s : FrontState) (x : List ℕ) (u : ℕ) → IsFront s → IsAsked s x u
     → change_of s.rows (entry.Unload (record { loader = u })) ≡ Some (Unload x)

@@ -21,15 +21,14 @@ use Rattle.cm_space.specs.Space.{SpaceState, WaitingChunks, IsKnown, arena_of, w
 use Rattle.cm_space.specs.Space.{left_by}
 use Rattle.cm_space.specs.Space.{left_by_all}
 use Rattle.cm_space.specs.Ownership.{IsSpace}
-use Rattle.cm_state.specs.State.{words_show}
-use Rattle.cm_state.specs.Entries.{MayFollow}
 use Rattle.cm_front.specs.Chains.{chain_of}
 use Rattle.cm_front.specs.Front.{FrontState, IsFront, IsDueLater}
+use Rattle.cm_front.specs.Accepting.{Unloads}
 use Rattle.cm_front.proofs.RowFacts.{chain_bare, chain_gone, chain_left}
 use Rattle.cm_front.proofs.Spaces.{got_none, got_left}
 use Rattle.cm_front.proofs.Causes.{IsAsked, AreAsked}
 use Rattle.cm_front.proofs.Groups.{follow_from}
-use Rattle.cm_front.proofs.Goings.{Keeps, due_later, live_past}
+use Rattle.cm_front.proofs.Goings.{Keeps, due_later, live_past, not_last}
 use Rattle.cm_front.proofs.GoingsClass.{number_lives, turned}
 use Rattle.cm_front.proofs.NameNumbers.{are_found}
 
@@ -117,13 +116,10 @@ pool_left s n [] = refl
 pool_left s n (u ∷ us) = pool_left (left_by s n u) n us
 
 -- the loaders are unloaded, and what is left is what the entry preserves
-keeps_left : (s : FrontState) (us : List ℕ) (e : Entry (List ℕ)) → IsFront s
-    → MayFollow words_show s.sizes s.number s.rows e
-    → rows_after s.rows e ≡ without_loaders us s.rows
-    → IsSpace (left_by_all s.space (s.number + 1) us)
-    → IsFreeSpace (left_by_all s.space (s.number + 1) us).pool
-    → Keeps s e (left_by_all s.space (s.number + 1) us)
-keeps_left s us e f may rows is pool =
+pub keeps_left : (s : FrontState) (e : Entry (List ℕ)) (us : List ℕ) (left : SpaceState) → IsFront s
+    → Unloads s e us → left ≡ left_by_all s.space (s.number + 1) us → IsSpace left
+    → IsFreeSpace left.pool → Keeps s e left
+keeps_left s e us left f h is space free =
     let sealed = follow_from s.unsealed (s.sealed + 1) (s.number + 1) f.groups in
     let learnt = f.learnt in
     let before : AreOfOne s.learnt (s.number + 1) s.rows s.space = record {
@@ -132,16 +128,19 @@ keeps_left s us e f may rows is pool =
       known = f.known;
       waiting = due_later s.learnt s.number s.space.waiting f.waiting;
     } in
-    let after = subst (λ (l : List (Row (List ℕ))). AreOfOne s.learnt (s.number + 1) l
-    (left_by_all s.space (s.number + 1) us)) (sym rows)
-    (all_left s.learnt (s.number + 1) us s.rows s.space (omega (arith, sealed, learnt)) before) in
+    let all = all_left s.learnt (s.number + 1) us s.rows s.space (omega (arith, sealed, learnt))
+    before in
+    let after : AreOfOne s.learnt (s.number + 1) (rows_after s.rows e) left =
+    subst (λ (l : List (Row (List ℕ))). AreOfOne s.learnt (s.number + 1) l left) (sym h.rows_are)
+    (subst (AreOfOne s.learnt (s.number + 1) (without_loaders us s.rows)) (sym is) all) in
     record {
-      may = may;
+      may = h.may;
       right = after.right;
       matches = record {
-        is = is;
-        pool = pool;
-        geometry = ap (λ (p : FreeSpace). p.geometry) (pool_left s.space (s.number + 1) us)
+        is = space;
+        pool = free;
+        geometry = ap (λ (t : SpaceState). t.pool.geometry) is
+            ∙ ap (λ (p : FreeSpace). p.geometry) (pool_left s.space (s.number + 1) us)
             ∙ f.space.geometry;
         chains = after.chains;
       };
@@ -149,48 +148,53 @@ keeps_left s us e f may rows is pool =
       waiting = after.waiting;
     }
 
-pub keeps_unload : LoadersAreOwn → (s : FrontState) (x : List ℕ) (u : ℕ) → IsFront s → IsAsked s x u
-    → IsSpace (left_by s.space (s.number + 1) u)
-    → IsFreeSpace (left_by s.space (s.number + 1) u).pool
-    → Keeps s (entry.Unload (record { loader = u })) (left_by s.space (s.number + 1) u)
-keeps_unload own s x u f asked is pool =
+-- ---- what is asked is such an entry
+
+pub unloads_one : LoadersAreOwn → (s : FrontState) (x : List ℕ) (u : ℕ) → IsFront s → IsAsked s x u
+    → Unloads s (entry.Unload (record { loader = u })) (u ∷ [])
+unloads_one own s x u f asked =
     let live = number_lives x u s.rows asked.found in
     let before = live_past own s f u live in
     let numbers = f.numbers in
-    keeps_left s (u ∷ []) (entry.Unload (record { loader = u })) f
-    (record {
-      fits = record { loader = omega (arith, before, numbers) };
-      keeps = rw live refl;
-      new = tt;
-    })
-    refl is pool
+    record {
+      may = record {
+        fits = record { loader = omega (arith, before, numbers) };
+        keeps = rw live refl;
+        new = tt;
+      };
+      left = not_last s.number numbers asked.left;
+      live = rw live refl;
+      differ = refl;
+      rows_are = refl;
+    }
 
-pub keeps_unload_all : LoadersAreOwn → (s : FrontState) (xs : List (List ℕ)) (us : List ℕ)
-    → IsFront s → AreAsked s xs us → IsSpace (left_by_all s.space (s.number + 1) us)
-    → IsFreeSpace (left_by_all s.space (s.number + 1) us).pool
-    → Keeps s (entry.UnloadAll (record { loaders = us })) (left_by_all s.space (s.number + 1) us)
-keeps_unload_all own s xs us f asked is pool =
+pub unloads_all : LoadersAreOwn → (s : FrontState) (xs : List (List ℕ)) (us : List ℕ)
+    → IsFront s → AreAsked s xs us → Unloads s (entry.UnloadAll (record { loaders = us })) us
+unloads_all own s xs us f asked =
     let found = are_found own s xs us f asked in
     let count = found.count in
     let some = asked.some in
     let few = asked.few in
-    keeps_left s us (entry.UnloadAll (record { loaders = us })) f
-    (record {
-      fits = record {
-        some = omega (arith, count, some);
-        few = omega (arith, count, few);
-        loaders = all_small own s us f found.live;
+    record {
+      may = record {
+        fits = record {
+          some = omega (arith, count, some);
+          few = omega (arith, count, few);
+          loaders = all_small us found.live;
+        };
+        keeps = rw found.differ (rw found.live refl);
+        new = tt;
       };
-      keeps = rw found.differ (rw found.live refl);
-      new = tt;
-    })
-    refl is pool
+      left = not_last s.number f.numbers asked.left;
+      live = found.live;
+      differ = found.differ;
+      rows_are = refl;
+    }
   where
-    all_small : LoadersAreOwn → (s : FrontState) (us : List ℕ) → IsFront s
-        → are_live us s.rows ≡ true → AllByRecursion (λ u. u < 2 ^ 64) us
-    all_small own s [] f live = tt
-    all_small own s (u ∷ us) f live =
+    all_small : (us : List ℕ) → are_live us s.rows ≡ true → AllByRecursion (λ u. u < 2 ^ 64) us
+    all_small [] live = tt
+    all_small (u ∷ us) live =
         let parts = and_parts (is_live u s.rows) (are_live us s.rows) live in
         let before = live_past own s f u parts.0 in
         let numbers = f.numbers in
-        (omega (arith, before, numbers), all_small own s us f parts.1)
+        (omega (arith, before, numbers), all_small us parts.1)

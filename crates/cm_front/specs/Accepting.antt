@@ -1,5 +1,6 @@
 -- What each call of the accepted cache does.
-use Rattle.std.specs.Prelude.{◌≡◌, ℕ, ◌+◌, ◌-◌, ◌⊎◌, max, nat_le, if◌then◌else◌, List, [], ◌∷◌}
+use Rattle.std.specs.Prelude.{◌≡◌, ℕ, ◌+◌, ◌-◌, ◌^◌, ◌<◌, ◌⊎◌, max, nat_le, true}
+use Rattle.std.specs.Prelude.{if◌then◌else◌, List, [], ◌∷◌}
 use Rattle.std.specs.Prelude.{◌++◌, length, Option, Some, None, Result, Ok, Err}
 use Rattle.cm_arena.specs.Placing.{Places, IsFull}
 use Rattle.cm_arena.specs.Tightening.{IsTight}
@@ -7,7 +8,8 @@ use Rattle.cm_layout.specs.declared.row.Row.{Row}
 use Rattle.cm_layout.specs.declared.row.Row.TheVariants.{Loader, Class}
 use Rattle.cm_layout.specs.declared.entry.Entry.{Entry}
 use Rattle.cm_layout.specs.declared.entry.Entry.TheVariants as entry
-use Rattle.cm_layout.specs.Rows.{number_of, rows_after, group_limit}
+use Rattle.cm_layout.specs.Rows.{number_of, rows_after, without_loaders, group_limit}
+use Rattle.cm_layout.specs.Rules.{are_live, differ}
 use Rattle.cm_group.specs.Groups.{Carried, Handed, next_number, slots_taken, moved_with}
 use Rattle.cm_space.specs.Space.{SpaceState, arena_of, with_arena, left_by, left_by_all, learnt}
 use Rattle.cm_space.specs.Tightening.{MovesChunk}
@@ -62,6 +64,15 @@ accepted s e space =
       unsealed = joined_by (s.number + 1) s.unsealed (carried s.rows e);
       space = space;
     }
+
+-- The entry may follow, a number is left for it, and it unloads exactly these loaders, which are
+-- live and all different.
+pub record Unloads (s : FrontState) (e : Entry (List ℕ)) (us : List ℕ) : Type 0 where
+  pub may : MayFollow words_show s.sizes s.number s.rows e
+  pub left : s.number < 2 ^ 63
+  pub live : are_live us s.rows ≡ true
+  pub differ : differ us ≡ true
+  pub rows_are : rows_after s.rows e ≡ without_loaders us s.rows
 
 -- the change is accepted with this number: it is an entry that may follow
 pub record FrontAccepts (s : FrontState) (change : Change (List ℕ)) (n : ℕ)

@@ -1,17 +1,18 @@
 //! Accepts commands.
 
-ghost use Rattle.std.specs.Prelude.{◌≡◌, false, true, map, Some};
-ghost use Rattle.std.specs.Prelude.{IfOk, OnOk};
+ghost use Rattle.std.specs.Prelude.{◌≡◌, ◌+◌, false, true, map, Some};
+ghost use Rattle.std.specs.Prelude.{IfOk, OnOk, OnErr};
 ghost use Rattle.std.specs.Arc.{arc_value};
 ghost use Rattle.cm_pool.specs.declared.chunk.Chunk.{Chunk};
 ghost use Rattle.cm_layout.specs.Rows.{classes_in, kept_on, last_chunk};
 ghost use Rattle.cm_layout.specs.Names.{is_loader_name};
 ghost use Rattle.cm_layout.specs.declared.entry.Entry.TheVariants as variant;
 ghost use Rattle.cm_layout.specs.declared.row.Row.TheVariants.{Loader, Class};
+ghost use Rattle.cm_space.specs.Space.{left_by_all};
 ghost use Rattle.cm_commands.specs.Commands.{change_asked};
 ghost use Rattle.cm_state.specs.Step.{AddLoader, Define, Unload as UnloadOf, Tighten};
 ghost use Rattle.cm_state.specs.Step.{UnloadAll as UnloadAllOf};
-ghost use Rattle.cm_front.specs.Accepting.{FrontAnswers};
+ghost use Rattle.cm_front.specs.Accepting.{FrontAnswers, Unloads, accepted, carried};
 ghost use Rattle.cm_front.specs.Refusing.{refusal_of_place};
 
 use crate::front::Front;
@@ -127,17 +128,10 @@ impl Front {
     {
         rows_tell_state();
         loaders_are_own();
-        entries_are_steps();
         let loader = self.loader_asked(name)?;
-        self.unsealed.make_ready()?;
-        let number = self.number + 1;
-        self.space.leave(loader, number)?;
-        self.space.invariant_holds();
-        let _rule = self.book.apply(number, Entry::Unload(Unload { loader })); // it breaks none
+        let unloaded = Entry::Unload(Unload { loader });
         let entry = CarriedEntry::unload(self.alloc, Unload { loader });
-        self.unsealed.join(number, entry);
-        self.number = number;
-        Ok(number)
+        Ok(self.leave(&[loader], unloaded, entry)?)
     }
 
     fn unload_all(&mut self, names: &Names<'_>) -> Result<u64, Refusal>
@@ -147,15 +141,33 @@ impl Front {
     {
         rows_tell_state();
         loaders_are_own();
-        entries_are_steps();
         let loaders = self.loaders_asked(names)?;
+        let unloaded = Entry::UnloadAll(UnloadAll { loaders });
+        let entry = CarriedEntry::unload_all(self.alloc, UnloadAll { loaders });
+        Ok(self.leave(loaders.as_slice(), unloaded, entry)?)
+    }
+
+    // Loaders leave with the entry that unloads them.
+    fn leave(
+        &mut self,
+        loaders: &[u64],
+        unloaded: Entry<Prepared>,
+        entry: CarriedEntry,
+    ) -> Result<u64, AllocError>
+        requires unloads { Unloads self.old unloaded loaders.now }
+        requires carried { entry ≡ carried self.old.rows unloaded }
+        ensures number { IfOk result (λ n. n ≡ self.old.number + 1) }
+        ensures ok { OnOk result (self.new ≡ accepted self.old unloaded
+            (left_by_all self.old.space (self.old.number + 1) loaders.now)) }
+        ensures err { OnErr result (self.new ≡ self.old) }
+    {
+        loaders_are_own();
+        entries_are_steps();
         self.unsealed.make_ready()?;
         let number = self.number + 1;
-        self.space.leave_all(loaders.as_slice(), number)?;
+        self.space.leave_all(loaders, number)?;
         self.space.invariant_holds();
-        let unloaded = Entry::UnloadAll(UnloadAll { loaders });
         let _rule = self.book.apply(number, unloaded); // it breaks none
-        let entry = CarriedEntry::unload_all(self.alloc, UnloadAll { loaders });
         self.unsealed.join(number, entry);
         self.number = number;
         Ok(number)

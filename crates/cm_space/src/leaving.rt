@@ -9,9 +9,9 @@ use crate::waiting::Waiting;
 use cm_arena::Arena;
 use std::collections::{BTreeMap, VecDeque};
 
-/// Removes a loader's arena: its chunks wait for the number, after those that wait already. There
-/// is room for them.
-pub fn leave_one(
+// Removes a loader's arena: its chunks wait for the number, after those that wait already. There
+// is room for them.
+fn leave_one(
     arenas: &mut BTreeMap<u64, Arena>,
     waiting: &mut VecDeque<Waiting>,
     loader: u64,

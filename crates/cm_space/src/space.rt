@@ -6,7 +6,7 @@ ghost use Rattle.std.specs.FinMap as map;
 ghost use Rattle.cm_pool.specs.Chunks.{chunk_size};
 
 use crate::adopt::adopt_place;
-use crate::leaving::{leave_each, leave_one};
+use crate::leaving::leave_each;
 use crate::waiting::{Waiting, free_due, reserve_left, wait_behind};
 use cm_arena::{Arena, Moved, PlaceRefusal};
 use cm_pool::{Chunk, Geometry, Place, Pool};
@@ -49,7 +49,7 @@ impl Space {
     ghost use Rattle.cm_pool.specs.Places.{IsInside};
     ghost use Rattle.cm_space.specs.Space.{WaitingChunks, empty_space, IsKnown, arena_of};
     ghost use Rattle.cm_space.specs.Space.{with_arena};
-    ghost use Rattle.cm_space.specs.Space.{left_by, left_by_all, learnt};
+    ghost use Rattle.cm_space.specs.Space.{left_by_all, learnt};
     ghost use Rattle.cm_space.specs.Ownership.{IsSpace, Owns};
     ghost use Rattle.cm_space.specs.Adopting.{adopted, IsAdoptable, IsOnTheWay};
     ghost use Rattle.cm_arena.specs.Tightening.{IsTight};
@@ -190,23 +190,10 @@ impl Space {
         adopt_place(self.arenas.get_mut(&loader).unwrap(), &mut self.pool, place)
     }
 
-    /// Removes a loader's arena. Its chunks, and no others, wait for the number from then on, after
-    /// those that wait already; an arena with no chunks leaves an entry with none. An `Err` changes
-    /// nothing.
-    pub fn leave(&mut self, loader: u64, number: u64) -> Result<(), AllocError>
-        requires known { IsKnown self.old loader }
-        requires last { AllByRecursion (λ (w : WaitingChunks). w.number ≤ number) self.old.waiting }
-        ensures ok { OnOk result (self.new ≡ left_by self.old number loader) }
-        ensures err { OnErr result (self.new ≡ self.old) }
-    {
-        self.waiting.reserve(1)?;
-        leave_one(&mut self.arenas, &mut self.waiting, loader, number);
-        Ok(())
-    }
-
-    /// Removes the arenas of several loaders, one after another, as [`leave`](Space::leave) removes
-    /// one: their chunks wait for the number, in the order of the loaders. Either all are removed
-    /// or none, since all memory is allocated first. An `Err` changes nothing.
+    /// Removes the arenas of loaders, one after another. Their chunks, and no others, wait for the
+    /// number from then on, after those that wait already, in the order of the loaders; an arena
+    /// with no chunks leaves an entry with none. Either all are removed or none, since all memory
+    /// is allocated first. An `Err` changes nothing.
     pub fn leave_all(&mut self, loaders: &[u64], number: u64) -> Result<(), AllocError>
         requires known { AllByRecursion (IsKnown self.old) loaders.now }
         requires differ { Pairwise (λ u v. u ≢ v) loaders.now }

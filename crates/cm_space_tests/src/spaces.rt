@@ -79,8 +79,8 @@ fn leave(space: &mut Space, loader: u64, number: u64) -> Result<(), Fail>
     if !space.is_known(loader) {
         return Err("not known".into());
     }
-    if space.leave(loader, number).is_err() {
-        space.leave(loader, number)?;
+    if space.leave_all(&[loader], number).is_err() {
+        space.leave_all(&[loader], number)?;
     }
     Ok(())
 }

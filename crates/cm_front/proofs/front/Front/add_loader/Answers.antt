@@ -19,7 +19,7 @@ use Rattle.cm_front.proofs.Causes.{loader_refused, was_made}
 use Rattle.cm_front.proofs.Goings.{never_known, not_last}
 use Rattle.cm_front.proofs.Answering.{same_groups, unchanged, above, next_follows, told, no_memory}
 use Rattle.cm_front.proofs.Answering.{given}
-use Rattle.cm_front.proofs.Answering.{Went, went_all, loader_keeps}
+use Rattle.cm_front.proofs.Answering.{Went, followed, went, loader_keeps}
 use Rattle.cm_front.proofs.front.Front.add_loader.Goals as goal
 
 pub returns-in_err-number : goal.returns-in_err-number
@@ -89,14 +89,14 @@ join-requires-clause-next c =
     (subst IsFront c.self.view_is c.self.invariant)
     (c.make_ready.ensures.groups ∙ ap (λ (t : FrontState). t.unsealed) c.self.view_is))
 
-went : (c : goal.After-self-1)
+goes : (c : goal.After-self-1)
     → Went (front_of c.self.inside.book c.self.inside.space c.self.inside.unsealed
     c.self.inside.number c.self.inside.sealed c.self.inside.learnt c.self.inside.is_broken
     c.self.inside.is_closed)
     (AddLoader c.args.name.now) c.in_ok-number.number
     (front_of c.apply-rule.new.self c.add_loader.new.self c.join.new.self c.in_ok-number.number
     c.self.inside.sealed c.self.inside.learnt c.self.inside.is_broken c.self.inside.is_closed)
-went c =
+goes c =
     let i = c.self.inside in
     let x = c.args.name.now in
     let n = c.in_ok-number.number in
@@ -110,11 +110,13 @@ went c =
     let keeps = loader_keeps c.loaders_are_own.ensures s x n c.add_loader.new.self f made
     c.in_ok-add_loader.ensures.ok c.invariant_holds.ensures.arenas
     c.invariant_holds.ensures.pool in
-    went_all c.entries_are_steps.ensures.words i.book c.apply-rule.new.self i.space
+    went s _ (AddLoader x) n e c.add_loader.new.self made.number keeps
+    c.in_ok-add_loader.ensures.ok refl
+    (followed c.entries_are_steps.ensures.words i.book c.apply-rule.new.self i.space
     c.add_loader.new.self i.unsealed c.make_ready.new.self c.join.new.self i.number n
     i.sealed i.learnt
-    i.is_broken i.is_closed e (AddLoader x) c.apply-rule.result f
-    (not_last i.number f.numbers made.left) made.number keeps c.in_ok-add_loader.ensures.ok refl
+    i.is_broken i.is_closed e c.apply-rule.result f
+    (not_last i.number f.numbers made.left) made.number keeps
     (c.apply-rule.ensures.broken
     ∙ ap (λ d. broken_rule i.book.sizes i.book.rows n d) c.loader_entry.ensures)
     (c.apply-rule.ensures.left
@@ -126,10 +128,10 @@ went c =
     ∙ ap (λ d. joined_by n c.make_ready.new.self.groups d)
     (c.loader-entry.ensures
     ∙ ap (λ (r : LoaderRow). record { entry = entry.Live (Loader r); moved = [] })
-    c.loader_row.ensures))
+    c.loader_row.ensures)))
 
 pub invariant_of-self-2 : goal.invariant_of-self-2
-invariant_of-self-2 c = (went c).front
+invariant_of-self-2 c = (goes c).front
 
 pub returns : goal.returns
 returns c =
@@ -142,4 +144,4 @@ returns c =
     (subst (λ (t : FrontState). FrontAccepts t (AddLoader x) c.in_ok-number.number
     (front_of c.apply-rule.new.self c.add_loader.new.self c.join.new.self c.in_ok-number.number
     c.self.inside.sealed c.self.inside.learnt c.self.inside.is_broken c.self.inside.is_closed))
-    c.self.view_is (went c).accepts)
+    c.self.view_is (goes c).accepts)

@@ -20,7 +20,7 @@ use Rattle.cm_front.specs.Refusing.{class_asked}
 use Rattle.cm_front.proofs.Causes.{class_refused, was_free}
 use Rattle.cm_front.proofs.Goings.{not_last}
 use Rattle.cm_front.proofs.Answering.{unchanged, above, told, given, full_answer, place_answer}
-use Rattle.cm_front.proofs.Answering.{Went, went_all, class_keeps, class_given, is_known}
+use Rattle.cm_front.proofs.Answering.{Went, followed, went, class_keeps, class_given, is_known}
 use Rattle.cm_front.proofs.Answering.{words_some, not_full_for}
 use Rattle.cm_front.proofs.front.Front.define.Goals as goal
 use Rattle.cm_front.proofs.front.Front.define.Goals.{then-is_full, else-is_full}
@@ -165,14 +165,14 @@ join-requires-clause-to c =
     let below = not_last i.number c.self.invariant.numbers free.asked.left in
     omega (arith, below)
 
-went : (c : goal.After-self-1)
+goes : (c : goal.After-self-1)
     → Went (front_of c.self.inside.book c.self.inside.space c.self.inside.unsealed
     c.self.inside.number c.self.inside.sealed c.self.inside.learnt c.self.inside.is_broken
     c.self.inside.is_closed)
     (Define c.args.name.now c.args.class) (c.self.inside.number + 1)
     (front_of c.apply-rule.new.self c.place.new.self c.join.new.self (c.self.inside.number + 1)
     c.self.inside.sealed c.self.inside.learnt c.self.inside.is_broken c.self.inside.is_closed)
-went c =
+goes c =
     let i = c.self.inside in
     let x = c.args.name.now in
     let w = c.args.class in
@@ -190,16 +190,17 @@ went c =
     c.place.new.self f free c.words-words.ensures.right c.words-words.ensures.words
     c.in-Ok-place.ensures.placed c.in-Ok-place.ensures.others
     c.invariant_holds.ensures.arenas c.invariant_holds.ensures.pool in
-    went_all c.entries_are_steps.ensures.words i.book c.apply-rule.new.self i.space
-    c.place.new.self i.unsealed c.room_for.new.unsealed c.join.new.self i.number
-    (i.number + 1) i.sealed
-    i.learnt i.is_broken i.is_closed e (Define x w) c.apply-rule.result f
-    (not_last i.number f.numbers free.asked.left) refl keeps (
+    went s _ (Define x w) (i.number + 1) e c.place.new.self refl keeps (
       subst (λ n. Places (arena_of s.space u) s.space.pool n place (arena_of c.place.new.self u)
           c.place.new.self.pool) c.words-words.ensures.words c.in-Ok-place.ensures.placed,
       c.in-Ok-place.ensures.others,
     )
-    (class_given own s x w u place f free.asked) c.apply-rule.ensures.broken
+    (class_given own s x w u place f free.asked)
+    (followed c.entries_are_steps.ensures.words i.book c.apply-rule.new.self i.space
+    c.place.new.self i.unsealed c.room_for.new.unsealed c.join.new.self i.number
+    (i.number + 1) i.sealed
+    i.learnt i.is_broken i.is_closed e c.apply-rule.result f
+    (not_last i.number f.numbers free.asked.left) refl keeps c.apply-rule.ensures.broken
     c.apply-rule.ensures.left
     c.room_for.ensures.groups
     (c.join.ensures
@@ -208,10 +209,10 @@ went c =
     ∙ ap (λ (r : List ℕ). record {
       entry = entry.Live (Class (record { loader = u; place = place }) r);
       moved = [];
-    }) (c.into_record.ensures.record ∙ c.in-Ok.ensures.shared)))
+    }) (c.into_record.ensures.record ∙ c.in-Ok.ensures.shared))))
 
 pub invariant_of-self-2 : goal.invariant_of-self-2
-invariant_of-self-2 c = (went c).front
+invariant_of-self-2 c = (goes c).front
 
 pub returns : goal.returns
 returns c =
@@ -236,4 +237,4 @@ returns c =
     (subst (λ (t : FrontState). FrontAccepts t (Define x w) (c.self.inside.number + 1)
     (front_of c.apply-rule.new.self c.place.new.self c.join.new.self (c.self.inside.number + 1)
     c.self.inside.sealed c.self.inside.learnt c.self.inside.is_broken c.self.inside.is_closed))
-    c.self.view_is (went c).accepts)
+    c.self.view_is (goes c).accepts)

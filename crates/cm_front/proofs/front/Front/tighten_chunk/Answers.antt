@@ -23,7 +23,8 @@ use Rattle.cm_front.proofs.Causes.{IsAsked, tighten_refused, was_asked}
 use Rattle.cm_front.proofs.Goings.{not_last}
 use Rattle.cm_front.proofs.GoingsMove.{Known, IsMoved, keeps_move, last_from, right-kept}
 use Rattle.cm_front.proofs.Answering.{unchanged, above, told, no_memory, no_chunk, not_tight_for}
-use Rattle.cm_front.proofs.Answering.{given, Went, went_all, tighten_asked, last_of_all, is_known}
+use Rattle.cm_front.proofs.Answering.{given, Went, followed, went, tighten_asked, last_of_all}
+use Rattle.cm_front.proofs.Answering.{is_known}
 use Rattle.cm_front.proofs.front.Front.tighten_chunk.Goals as goal
 use Rattle.cm_front.proofs.front.Front.tighten_chunk.Goals.{After-invariant_holds, After-self-1}
 
@@ -198,14 +199,14 @@ of_move-requires c =
 abbrev carried_by : Move → List (List ℕ) → Carried
 carried_by d moved = record { entry = entry.Move d; moved = moved }
 
-went : (c : After-self-1)
+goes : (c : After-self-1)
     → Went (front_of c.self.inside.book c.self.inside.space c.self.inside.unsealed
     c.self.inside.number c.self.inside.sealed c.self.inside.learnt c.self.inside.is_broken
     c.self.inside.is_closed)
     (Tighten c.args.name.now) (c.self.inside.number + 1)
     (front_of c.apply-rule.new.self c.tighten.new.self c.join.new.self (c.self.inside.number + 1)
     c.self.inside.sealed c.self.inside.learnt c.self.inside.is_broken c.self.inside.is_closed)
-went c =
+goes c =
     let i = c.self.inside in
     let x = c.args.name.now in
     let u = c.in_ok-loader.loader in
@@ -216,14 +217,14 @@ went c =
     let e : Entry (List ℕ) = entry.Move (record { loader = u; from = from; to = to }) in
     let f = c.self.invariant in
     let own = c.loaders_are_own.ensures in
-    went_all c.entries_are_steps.ensures.words i.book c.apply-rule.new.self i.space
+    let keeps = keeps_move (known at) s x u from to c.tighten.new.self f (asked at) (moves at) in
+    went s _ (Tighten x) (i.number + 1) e c.tighten.new.self refl keeps (moves at).moves
+    (tighten_asked own s x u from to f (asked at))
+    (followed c.entries_are_steps.ensures.words i.book c.apply-rule.new.self i.space
     c.tighten.new.self i.unsealed c.make_ready.new.self c.join.new.self i.number
     (i.number + 1) i.sealed
-    i.learnt i.is_broken i.is_closed e (Tighten x) c.apply-rule.result f
-    (not_last i.number f.numbers (asked at).left) refl
-    (keeps_move (known at) s x u from to c.tighten.new.self f (asked at) (moves at))
-    (moves at).moves
-    (tighten_asked own s x u from to f (asked at))
+    i.learnt i.is_broken i.is_closed e c.apply-rule.result f
+    (not_last i.number f.numbers (asked at).left) refl keeps
     (c.apply-rule.ensures.broken
     ∙ ap (λ (d : Move). broken_rule i.book.sizes i.book.rows (i.number + 1)
     (entry.Move d)) c.move_entry-entry.ensures)
@@ -236,10 +237,10 @@ went c =
     ∙ ap (λ d. joined_by (i.number + 1) c.make_ready.new.self.groups d)
     (c.of_move.ensures
     ∙ (ap (λ (d : Move). carried_by d c.in_ok-records.records) c.move_entry-entry.ensures
-    ∙ ap (carried_by (record { loader = u; from = from; to = to })) (records at))))
+    ∙ ap (carried_by (record { loader = u; from = from; to = to })) (records at)))))
 
 pub invariant_of-self-2 : goal.invariant_of-self-2
-invariant_of-self-2 c = (went c).front
+invariant_of-self-2 c = (goes c).front
 
 pub returns : goal.returns
 returns c =
@@ -255,4 +256,4 @@ returns c =
     (subst (λ (t : FrontState). FrontAccepts t (Tighten x) (c.self.inside.number + 1)
     (front_of c.apply-rule.new.self c.tighten.new.self c.join.new.self (c.self.inside.number + 1)
     c.self.inside.sealed c.self.inside.learnt c.self.inside.is_broken c.self.inside.is_closed))
-    c.self.view_is (went c).accepts)
+    c.self.view_is (goes c).accepts)
