@@ -46,10 +46,10 @@ pub finds : {D : Type 0} (there : FoundIsThere) (k : Machine) (front : FrontStat
 finds there k front committer queue sealed failed i loader class found same =
     subst (λ o. Finds committer.sizes k loader class o) (sym same)
     (subst (λ z. Finds z k loader class (class_in (state_of words_show front.rows) loader class))
-    i.sizes
+    i.cache.sizes
     (there k committer.rows committer.number
-    (commands_of (of_underway committer.underway ++ queue)) front loader class i.is i.ahead
-    i.follows))
+    (commands_of (of_underway committer.underway ++ queue)) front loader class i.cache.is
+    i.between.ahead i.follows))
 
 module _ {D : Type 0} (made : AcceptedIsMade) (refused : RefusedIsRefused) (ahead : AcceptedIsAhead)
     (k : Machine) (front new : FrontState) (committer : CommitterState D) (queue : List Handed)
@@ -68,8 +68,8 @@ module _ {D : Type 0} (made : AcceptedIsMade) (refused : RefusedIsRefused) (ahea
       let behind : Behind =
       record { rows = committer.rows; number = committer.number; out = out } in
       let m : IsAccepted k behind front new asked n =
-      made k committer.rows committer.number out front new asked change n i.is is_new
-      i.ahead i.follows asks answer in
+      made k committer.rows committer.number out front new asked change n i.cache.is is_new
+      i.between.ahead i.follows asks answer in
       let same = answer.2.after in
       record {
         change = m.change;
@@ -77,31 +77,38 @@ module _ {D : Type 0} (made : AcceptedIsMade) (refused : RefusedIsRefused) (ahea
         reaches = record {
           next = m.next;
           does = (
-            i.noticed_is ∙ m.whole,
-            subst (λ z. Accepts z k m.change n m.next) i.sizes m.accepts,
+            i.told.noticed_is ∙ m.whole,
+            subst (λ z. Accepts z k m.change n m.next) i.cache.sizes m.accepts,
           );
           matches = record {
-            is = is_new;
-            sizes = ap (λ (s : FrontState). s.sizes) same ∙ i.sizes;
-            running = ap (λ (s : FrontState). s.closed) same ∙ i.running;
-            groups = i.groups;
-            busy = i.busy;
-            ahead = ahead committer.rows committer.number out front new asked n i.is
-                is_new i.ahead answer;
-            from_learnt = learnt_accepted committer.rows committer.number out front i.from_learnt
-                ahead new asked n i.is is_new (ap (λ (s : FrontState). s.learnt) same) answer;
+            cache = record {
+              is = is_new;
+              sizes = ap (λ (s : FrontState). s.sizes) same ∙ i.cache.sizes;
+              running = ap (λ (s : FrontState). s.closed) same ∙ i.cache.running;
+            };
+            between = record {
+              groups = i.between.groups;
+              busy = i.between.busy;
+              ahead = ahead committer.rows committer.number out front new asked n i.cache.is
+                  is_new i.between.ahead answer;
+              from_learnt = learnt_accepted committer.rows committer.number out front
+                  i.between.from_learnt ahead new asked n i.cache.is is_new
+                  (ap (λ (s : FrontState). s.learnt) same) answer;
+            };
             follows = m.follows;
-            acknowledged_is =
-                ap (λ (j : Machine). j.acknowledged) m.accepts.next_is ∙ i.acknowledged_is;
-            sealed_is =
-                ap (λ (j : Machine). j.sealed) m.accepts.next_is
-                ∙ (i.sealed_is ∙ sym (ap (λ (s : FrontState). s.sealed) same));
-            sealed_told = i.sealed_told ∙ sym (ap (λ (s : FrontState). s.sealed) same);
-            failed_is = ap (λ (j : Machine). j.failed) m.accepts.next_is ∙ i.failed_is;
-            failed_told = i.failed_told;
-            noticed_is =
-                ap (λ (j : Machine). j.noticed) m.accepts.next_is
-                ∙ (i.noticed_is ∙ sym (ap (λ (s : FrontState). s.broken) same));
+            told = record {
+              acknowledged_is =
+                  ap (λ (j : Machine). j.acknowledged) m.accepts.next_is ∙ i.told.acknowledged_is;
+              sealed_is =
+                  ap (λ (j : Machine). j.sealed) m.accepts.next_is
+                  ∙ (i.told.sealed_is ∙ sym (ap (λ (s : FrontState). s.sealed) same));
+              sealed_told = i.told.sealed_told ∙ sym (ap (λ (s : FrontState). s.sealed) same);
+              failed_is = ap (λ (j : Machine). j.failed) m.accepts.next_is ∙ i.told.failed_is;
+              failed_told = i.told.failed_told;
+              noticed_is =
+                  ap (λ (j : Machine). j.noticed) m.accepts.next_is
+                  ∙ (i.told.noticed_is ∙ sym (ap (λ (s : FrontState). s.broken) same));
+            };
           };
         };
       }
@@ -122,12 +129,12 @@ module _ {D : Type 0} (made : AcceptedIsMade) (refused : RefusedIsRefused) (ahea
           ⊎ ((k.noticed ≡ false) × Refuses committer.sizes k change r)
       reason =
           elim (refused k committer.rows committer.number out front new asked change r
-          i.is i.ahead i.follows asks answer) [
-            | inl closed ↦ absurd (open_and_closed front.closed i.running closed.0)
-            | inr (inl broken) ↦ inl (i.noticed_is ∙ broken.0, broken.1)
+          i.cache.is i.between.ahead i.follows asks answer) [
+            | inl closed ↦ absurd (open_and_closed front.closed i.cache.running closed.0)
+            | inr (inl broken) ↦ inl (i.told.noticed_is ∙ broken.0, broken.1)
             | inr (inr machine) ↦ inr (
-              i.noticed_is ∙ machine.0,
-              subst (λ z. Refuses z k change r) i.sizes machine.1,
+              i.told.noticed_is ∙ machine.0,
+              subst (λ z. Refuses z k change r) i.cache.sizes machine.1,
             )
           ]
         where

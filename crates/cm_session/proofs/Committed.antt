@@ -34,13 +34,13 @@ module _ {D : Type 0} (k : Machine) (front : FrontState) (committer : CommitterS
     (i : IsSession k front committer queue sealed failed) where
   pub within : k.acknowledged ≤ k.sealed
   within =
-      let stored = i.acknowledged_is in
-      let is = i.sealed_is in
-      let handed = i.ahead.sealed in
+      let stored = i.told.acknowledged_is in
+      let is = i.told.sealed_is in
+      let handed = i.between.ahead.sealed in
       omega (arith, stored, is, handed)
 
   pub told : sealed ≡ k.sealed
-  told = i.sealed_told ∙ sym i.sealed_is
+  told = i.told.sealed_told ∙ sym i.told.sealed_is
 
 -- ---- another machine with the same commands
 

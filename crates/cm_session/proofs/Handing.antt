@@ -73,14 +73,14 @@ module _ {D : Type 0} (counted : CommandsAreCounted) (k : Machine) (front : Fron
   all_commands =
       let all = counted front.sizes k committer.rows committer.number
       (pending (commands_of (of_underway committer.underway ++ queue)) front) i.follows in
-      all ∙ i.ahead.numbers
+      all ∙ i.between.ahead.numbers
 
   pub known : k.sealed ≤ accepted_to k
   known =
       let all = all_commands in
-      let is = i.sealed_is in
-      let numbers = i.ahead.numbers in
-      let handed = i.ahead.sealed in
+      let is = i.told.sealed_is in
+      let numbers = i.between.ahead.numbers in
+      let handed = i.between.ahead.sealed in
       let long = length-append (commands_of (of_underway committer.underway ++ queue))
       (commands_of front.unsealed) in
       omega (arith, all, is, numbers, handed, long)
@@ -88,17 +88,17 @@ module _ {D : Type 0} (counted : CommandsAreCounted) (k : Machine) (front : Fron
   pub none_waits : front.number ≡ sealed → k.sealed ≡ accepted_to k
   none_waits same =
       let all = all_commands in
-      let is = i.sealed_is in
-      let told = i.sealed_told in
+      let is = i.told.sealed_is in
+      let told = i.told.sealed_told in
       omega (arith, same, all, is, told)
 
   pub some_wait : (front.number ≡ sealed → ⊥) → k.sealed < accepted_to k
   some_wait differ =
       let all = all_commands in
-      let is = i.sealed_is in
-      let told = i.sealed_told in
-      let numbers = i.ahead.numbers in
-      let handed = i.ahead.sealed in
+      let is = i.told.sealed_is in
+      let told = i.told.sealed_told in
+      let numbers = i.between.ahead.numbers in
+      let handed = i.between.ahead.sealed in
       let long = length-append (commands_of (of_underway committer.underway ++ queue))
       (commands_of front.unsealed) in
       omega (arith, differ, all, is, told, numbers, handed, long)
@@ -106,19 +106,20 @@ module _ {D : Type 0} (counted : CommandsAreCounted) (k : Machine) (front : Fron
   -- what was handed out is durable, so none of it waits
   pub none_queued : k.acknowledged ≡ k.sealed → queue ≡ []
   none_queued same =
-      let stored = i.acknowledged_is in
-      let is = i.sealed_is in
-      let handed = i.ahead.sealed in
+      let stored = i.told.acknowledged_is in
+      let is = i.told.sealed_is in
+      let handed = i.between.ahead.sealed in
       no_more (of_underway committer.underway) queue
-      (no_commands committer.number (of_underway committer.underway ++ queue) i.groups
+      (no_commands committer.number (of_underway committer.underway ++ queue) i.between.groups
       (omega (arith, same, stored, is, handed)))
 
   -- the accepted cache has nothing to hand out
   pub none_left : front.unsealed ≡ [] → k.sealed ≡ accepted_to k
   none_left none =
       let all = all_commands in
-      let is = i.sealed_is in
-      let same = subst (λ l. Follow (front.sealed + 1) l (front.number + 1)) none i.is.groups in
+      let is = i.told.sealed_is in
+      let groups = i.cache.is.groups in
+      let same = subst (λ l. Follow (front.sealed + 1) l (front.number + 1)) none groups in
       omega (arith, same, all, is)
 
 -- an empty queue with a place isn't full
@@ -144,7 +145,7 @@ module _ {D : Type 0} (counted : CommandsAreCounted) (handed : HandedIsAhead) (k
 
   oldest_first : h.oldest.first ≡ front.sealed + 1
   oldest_first =
-      (subst (λ l. Follow (front.sealed + 1) l (front.number + 1)) h.is_oldest i.is.groups).0
+      (subst (λ l. Follow (front.sealed + 1) l (front.number + 1)) h.is_oldest i.cache.is.groups).0
 
   first_is : group.first ≡ front.sealed + 1
   first_is = ap (λ (g : Handed). g.first) h.group_is ∙ oldest_first
@@ -170,7 +171,7 @@ module _ {D : Type 0} (counted : CommandsAreCounted) (handed : HandedIsAhead) (k
 
   ahead_then : IsAhead committer.rows committer.number (out ++ group.entries) new
   ahead_then =
-      handed committer.rows committer.number out front new group i.is i.ahead h
+      handed committer.rows committer.number out front new group i.cache.is i.between.ahead h
 
   waits_are : pending (out ++ group.entries) new ≡ pending out front
   waits_are =
@@ -200,7 +201,7 @@ module _ {D : Type 0} (counted : CommandsAreCounted) (handed : HandedIsAhead) (k
   all_known =
       let all = counted front.sizes k committer.rows committer.number (pending out front)
       i.follows in
-      let numbers = i.ahead.numbers in
+      let numbers = i.between.ahead.numbers in
       let then = ahead_then.numbers in
       let sealed = ahead_then.sealed in
       let after = sealed_after in
@@ -213,41 +214,47 @@ module _ {D : Type 0} (counted : CommandsAreCounted) (handed : HandedIsAhead) (k
   hands = record {
     next = next;
     does = record {
-      first_is = first_is ∙ ap (λ n. n + 1) (sym i.sealed_is);
+      first_is = first_is ∙ ap (λ n. n + 1) (sym i.told.sealed_is);
       some = let some = is.some in omega (arith, some);
       few =
           let many = many in
           let first = first_is in
-          let sealed = i.sealed_is in
+          let sealed = i.told.sealed_is in
           let some = is.some in
           omega (arith, many, first, sealed, some);
       known = all_known;
       next_is = refl;
     };
     matches = record {
-      is = is_new;
-      sizes = ap (λ (s : FrontState). s.sizes) h.after ∙ i.sizes;
-      running = ap (λ (s : FrontState). s.closed) h.after ∙ i.running;
-      groups = subst (AreConsecutive committer.number) (sym groups_are)
-          (behind_more committer.number groups group i.groups
-          (let first = first_is in
-          let sealed = i.ahead.sealed in
-          omega (arith, first, sealed)) is);
-      busy = i.busy;
-      ahead = subst (λ l. IsAhead committer.rows committer.number l new)
-          (sym out_are) ahead_then;
-      from_learnt = subst (λ l. IsAheadOfLearnt committer.rows committer.number l new)
-          (sym out_are)
-          (learnt_handed committer.rows committer.number out front i.from_learnt handed new group
-          i.is h);
+      cache = record {
+        is = is_new;
+        sizes = ap (λ (s : FrontState). s.sizes) h.after ∙ i.cache.sizes;
+        running = ap (λ (s : FrontState). s.closed) h.after ∙ i.cache.running;
+      };
+      between = record {
+        groups = subst (AreConsecutive committer.number) (sym groups_are)
+            (behind_more committer.number groups group i.between.groups
+            (let first = first_is in
+            let sealed = i.between.ahead.sealed in
+            omega (arith, first, sealed)) is);
+        busy = i.between.busy;
+        ahead = subst (λ l. IsAhead committer.rows committer.number l new)
+            (sym out_are) ahead_then;
+        from_learnt = subst (λ l. IsAheadOfLearnt committer.rows committer.number l new)
+            (sym out_are)
+            (learnt_handed committer.rows committer.number out front i.between.from_learnt handed
+            new group i.cache.is h);
+      };
       follows = subst (λ l. FollowsFront next committer.rows committer.number l new) (sym out_are)
           follows_then;
-      acknowledged_is = i.acknowledged_is;
-      sealed_is = sym sealed_after;
-      sealed_told = sym sealed_after;
-      failed_is = i.failed_is;
-      failed_told = i.failed_told;
-      noticed_is = i.noticed_is ∙ sym (ap (λ (s : FrontState). s.broken) h.after);
+      told = record {
+        acknowledged_is = i.told.acknowledged_is;
+        sealed_is = sym sealed_after;
+        sealed_told = sym sealed_after;
+        failed_is = i.told.failed_is;
+        failed_told = i.told.failed_told;
+        noticed_is = i.told.noticed_is ∙ sym (ap (λ (s : FrontState). s.broken) h.after);
+      };
     };
   }
 
@@ -279,20 +286,20 @@ module _ {D : Type 0} (frees : LearntIsAhead) (fails : FailedIsAhead) (k : Machi
       frees committer.rows committer.number all_out (record front { broken = broken })
       committer.number is_broken
       (fails committer.rows committer.number all_out front broken
-      front.closed i.ahead)
+      front.closed i.between.ahead)
       (omega arith)
     where
       is_broken : IsFront (record front { broken = broken })
       is_broken = record {
-        lawful = i.is.lawful;
-        rows = i.is.rows;
-        right = i.is.right;
-        space = i.is.space;
-        known = i.is.known;
-        waiting = i.is.waiting;
-        learnt = i.is.learnt;
-        numbers = i.is.numbers;
-        groups = i.is.groups;
+        lawful = i.cache.is.lawful;
+        rows = i.cache.is.rows;
+        right = i.cache.is.right;
+        space = i.cache.is.space;
+        known = i.cache.is.known;
+        waiting = i.cache.is.waiting;
+        learnt = i.cache.is.learnt;
+        numbers = i.cache.is.numbers;
+        groups = i.cache.is.groups;
       }
 
   pub learns : (broken : Bool) → k.noticed || k.failed ≡ broken
@@ -301,33 +308,39 @@ module _ {D : Type 0} (frees : LearntIsAhead) (fails : FailedIsAhead) (k : Machi
       (λ j. IsSession j new committer queue sealed failed)
   learns broken told after = record {
     next = next;
-    does = record { number_is = sym i.acknowledged_is; next_is = refl };
+    does = record { number_is = sym i.told.acknowledged_is; next_is = refl };
     matches = record {
-      is = is_new;
-      sizes = ap (λ (s : FrontState). s.sizes) after ∙ i.sizes;
-      running = ap (λ (s : FrontState). s.closed) after ∙ i.running;
-      groups = i.groups;
-      busy = i.busy;
-      ahead = subst (λ s. IsAhead committer.rows committer.number all_out s)
-          (sym after) (noted broken told);
-      from_learnt = all_learnt committer.rows committer.number all_out new all_known
-          (subst (λ s. IsAhead committer.rows committer.number all_out s)
-          (sym after) (noted broken told));
+      cache = record {
+        is = is_new;
+        sizes = ap (λ (s : FrontState). s.sizes) after ∙ i.cache.sizes;
+        running = ap (λ (s : FrontState). s.closed) after ∙ i.cache.running;
+      };
+      between = record {
+        groups = i.between.groups;
+        busy = i.between.busy;
+        ahead = subst (λ s. IsAhead committer.rows committer.number all_out s)
+            (sym after) (noted broken told);
+        from_learnt = all_learnt committer.rows committer.number all_out new all_known
+            (subst (λ s. IsAhead committer.rows committer.number all_out s)
+            (sym after) (noted broken told));
+      };
       follows = subst (λ s. FollowsFront next committer.rows committer.number all_out s)
           (sym after) (same_commands front.sizes k next refl refl i.follows);
-      acknowledged_is = i.acknowledged_is;
-      sealed_is = i.sealed_is ∙ sym (ap (λ (s : FrontState). s.sealed) after);
-      sealed_told = i.sealed_told ∙ sym (ap (λ (s : FrontState). s.sealed) after);
-      failed_is = i.failed_is;
-      failed_told = i.failed_told;
-      noticed_is = told ∙ sym (ap (λ (s : FrontState). s.broken) after);
+      told = record {
+        acknowledged_is = i.told.acknowledged_is;
+        sealed_is = i.told.sealed_is ∙ sym (ap (λ (s : FrontState). s.sealed) after);
+        sealed_told = i.told.sealed_told ∙ sym (ap (λ (s : FrontState). s.sealed) after);
+        failed_is = i.told.failed_is;
+        failed_told = i.told.failed_told;
+        noticed_is = told ∙ sym (ap (λ (s : FrontState). s.broken) after);
+      };
     };
   }
     where
       all_known : new.learnt ≡ committer.number
       all_known =
           ap (λ (s : FrontState). s.learnt) after
-          ∙ (let least = i.ahead.learnt in omega (arith, least))
+          ∙ (let least = i.between.ahead.learnt in omega (arith, least))
 
       next : Machine
       next = record k { noticed = k.noticed || k.failed }

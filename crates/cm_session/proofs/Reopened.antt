@@ -146,21 +146,27 @@ module _ {D : Type 0} (one : StandForOne) (live : FoundIsLive) (framed : FoundIs
     };
     matches = subst (λ (c : CommitterState D). IsSession next front c [] c.number false)
         (sym o.committer_is) (record {
-          is = is;
-          sizes = ap (λ (f : FrontState). f.sizes) front_is;
-          running = ap (λ (f : FrontState). f.closed) front_is;
-          groups = tt;
-          busy = refl;
-          ahead = is_ahead;
-          from_learnt = all_learnt rows number [] front
-              (ap (λ (f : FrontState). f.learnt) front_is) is_ahead;
+          cache = record {
+            is = is;
+            sizes = ap (λ (f : FrontState). f.sizes) front_is;
+            running = ap (λ (f : FrontState). f.closed) front_is;
+          };
+          between = record {
+            groups = tt;
+            busy = refl;
+            ahead = is_ahead;
+            from_learnt = all_learnt rows number [] front
+                (ap (λ (f : FrontState). f.learnt) front_is) is_ahead;
+          };
           follows = follows;
-          acknowledged_is = refl;
-          sealed_is = sym (ap (λ (f : FrontState). f.sealed) front_is);
-          sealed_told = sym (ap (λ (f : FrontState). f.sealed) front_is);
-          failed_is = refl;
-          failed_told = refl;
-          noticed_is = sym (ap (λ (f : FrontState). f.broken) front_is);
+          told = record {
+            acknowledged_is = refl;
+            sealed_is = sym (ap (λ (f : FrontState). f.sealed) front_is);
+            sealed_told = sym (ap (λ (f : FrontState). f.sealed) front_is);
+            failed_is = refl;
+            failed_told = refl;
+            noticed_is = sym (ap (λ (f : FrontState). f.broken) front_is);
+          };
         });
   }
     where

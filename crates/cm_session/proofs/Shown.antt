@@ -103,8 +103,8 @@ module _ {D : Type 0} (committed : CommittedFollows) (counted : CommandsAreCount
       → StandsForSome sizes k image
   now out f to image s = record {
     number = committer.number;
-    least = let is = i.acknowledged_is in omega (arith, is);
-    most = let is = i.sealed_is in omega (arith, is, to);
+    least = let is = i.told.acknowledged_is in omega (arith, is);
+    most = let is = i.told.sealed_is in omega (arith, is, to);
     stands = shows sizes k committer.rows committer.number image
         (let all = all_known out f in omega (arith, all))
         (after sizes k committer.rows committer.number (pending out front) f) s;
@@ -118,9 +118,9 @@ module _ {D : Type 0} (committed : CommittedFollows) (counted : CommandsAreCount
       → StandsForSome sizes k image
   then group rest f to image s = record {
     number = committer.number + length group.entries;
-    least = let is = i.acknowledged_is in omega (arith, is);
+    least = let is = i.told.acknowledged_is in omega (arith, is);
     most =
-        let is = i.sealed_is in
+        let is = i.told.sealed_is in
         let long = length-append group.entries (commands_of rest) in
         omega (arith, is, to, long);
     stands = shows sizes k (rows_after_group committer.rows group.entries)
@@ -144,9 +144,9 @@ module _ {D : Type 0} (committed : CommittedFollows) (counted : CommandsAreCount
           committed sizes k committer.rows committer.number group.entries
           (pending (commands_of rest) front)
           (subst (λ l. Follows sizes k committer.rows committer.number (map filled l)) split f)
-          (let numbers = i.ahead.numbers in
-          let last = i.is.numbers in
-          let here = i.ahead.sealed in
+          (let numbers = i.between.ahead.numbers in
+          let last = i.cache.is.numbers in
+          let here = i.between.ahead.sealed in
           let long = ap length split in
           let more =
           length-append (group.entries ++ commands_of rest) (commands_of front.unsealed) in
@@ -164,16 +164,16 @@ module _ {D : Type 0} (committed : CommittedFollows) (counted : CommandsAreCount
   waits : Waits (commands_of (of_underway committer.underway ++ queue))
   waits =
       subst (λ z. Follows z k committer.rows committer.number
-      (map filled (pending (commands_of (of_underway committer.underway ++ queue)) front))) i.sizes
-      i.follows
+      (map filled (pending (commands_of (of_underway committer.underway ++ queue)) front)))
+      i.cache.sizes i.follows
 
   pub stands_for_some : (image : List ℕ) → MayLeave committer image → StandsForSome sizes k image
   stands_for_some image l =
       elim (either committer.left (ShowsCache sizes committer.rows committer.number)
       (ShowsWith committer committer.underway) image l) [
-        | inl s ↦ now (commands_of (of_underway committer.underway ++ queue)) waits i.ahead.sealed
-            image s
-        | inr s ↦ with_underway committer.underway waits i.ahead.sealed image s
+        | inl s ↦ now (commands_of (of_underway committer.underway ++ queue)) waits
+            i.between.ahead.sealed image s
+        | inr s ↦ with_underway committer.underway waits i.between.ahead.sealed image s
       ]
 
 -- ---- at each moment

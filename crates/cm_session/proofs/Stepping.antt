@@ -84,12 +84,12 @@ module _ {D : Type 0} (k : Machine) (front : FrontState) (old new : CommitterSta
       → ReachesMachine (Advancing k (Ok Idle)) (λ j. IsSession j front new queue sealed failed)
   rests empty r = record {
     next = k;
-    does = (i.failed_is ∙ r.sound, all, refl);
+    does = (i.told.failed_is ∙ r.sound, all, refl);
     matches = subst (λ c. IsSession k front c queue sealed failed) (sym r.stays) i;
   }
     where
       none : old.underway ≡ None
-      none = none_under old.underway old.left i.busy r.none
+      none = none_under old.underway old.left i.between.busy r.none
 
       out : commands_of (of_underway old.underway ++ queue) ≡ []
       out =
@@ -98,10 +98,10 @@ module _ {D : Type 0} (k : Machine) (front : FrontState) (old new : CommitterSta
 
       all : k.acknowledged ≡ k.sealed
       all =
-          let sealed = i.ahead.sealed in
+          let sealed = i.between.ahead.sealed in
           let long = ap length out in
-          let here = i.acknowledged_is in
-          let there = i.sealed_is in
+          let here = i.told.acknowledged_is in
+          let there = i.told.sealed_is in
           omega (arith, sealed, long, here, there)
 
   -- ---- a call is made
@@ -110,22 +110,17 @@ module _ {D : Type 0} (k : Machine) (front : FrontState) (old new : CommitterSta
       → ReachesMachine (Advancing k (Ok Working)) (λ j. IsSession j front new queue sealed failed)
   works w = record {
     next = k;
-    does = (i.failed_is ∙ w.sound, refl);
+    does = (i.told.failed_is ∙ w.sound, refl);
     matches = subst (λ c. IsSession k front c queue sealed failed) (sym w.new_is) (record {
-      is = i.is;
-      sizes = i.sizes;
-      running = i.running;
-      groups = i.groups;
-      busy = still_busy old.underway old.left i.busy w.more;
-      ahead = i.ahead;
-      from_learnt = i.from_learnt;
+      cache = i.cache;
+      between = record {
+        groups = i.between.groups;
+        busy = still_busy old.underway old.left i.between.busy w.more;
+        ahead = i.between.ahead;
+        from_learnt = i.between.from_learnt;
+      };
       follows = i.follows;
-      acknowledged_is = i.acknowledged_is;
-      sealed_is = i.sealed_is;
-      sealed_told = i.sealed_told;
-      failed_is = i.failed_is;
-      failed_told = i.failed_told;
-      noticed_is = i.noticed_is;
+      told = i.told;
     });
   }
 
@@ -138,40 +133,42 @@ module _ {D : Type 0} (k : Machine) (front : FrontState) (old new : CommitterSta
   finishes next_ahead committed receipt f = record {
     next = next;
     does = (
-      i.failed_is ∙ f.sound,
+      i.told.failed_is ∙ f.sound,
       record {
         more =
             let told = f.told in
-            let here = i.acknowledged_is in
+            let here = i.told.acknowledged_is in
             let some = behind.1.some in
             omega (arith, told, here, some);
         known =
             let told = f.told in
             let sealed = ahead.sealed in
-            let there = i.sealed_is in
+            let there = i.told.sealed_is in
             let long = length-append group.entries (commands_of queue) in
             omega (arith, told, sealed, there, long);
         next_is = refl;
       },
     );
     matches = subst (λ c. IsSession next front c queue sealed failed) (sym f.new_is) (record {
-      is = i.is;
-      sizes = i.sizes;
-      running = i.running;
-      groups = behind.2;
-      busy = refl;
-      ahead = next_ahead old.rows old.number group (commands_of queue) front i.is ahead;
-      from_learnt = learnt_committed old.rows old.number
-          (commands_of (of_underway old.underway ++ queue)) front i.from_learnt group.entries
-          (commands_of queue)
-          (ap (λ (u : Option Work). commands_of (of_underway u ++ queue)) f.underway);
+      cache = i.cache;
+      between = record {
+        groups = behind.2;
+        busy = refl;
+        ahead = next_ahead old.rows old.number group (commands_of queue) front i.cache.is ahead;
+        from_learnt = learnt_committed old.rows old.number
+            (commands_of (of_underway old.underway ++ queue)) front i.between.from_learnt
+            group.entries (commands_of queue)
+            (ap (λ (u : Option Work). commands_of (of_underway u ++ queue)) f.underway);
+      };
       follows = same_commands front.sizes k next refl refl follows;
-      acknowledged_is = f.told;
-      sealed_is = i.sealed_is;
-      sealed_told = i.sealed_told;
-      failed_is = i.failed_is;
-      failed_told = i.failed_told;
-      noticed_is = i.noticed_is;
+      told = record {
+        acknowledged_is = f.told;
+        sealed_is = i.told.sealed_is;
+        sealed_told = i.told.sealed_told;
+        failed_is = i.told.failed_is;
+        failed_told = i.told.failed_told;
+        noticed_is = i.told.noticed_is;
+      };
     });
   }
     where
@@ -182,12 +179,14 @@ module _ {D : Type 0} (k : Machine) (front : FrontState) (old new : CommitterSta
       next = record k { acknowledged = receipt.number }
 
       behind : AreConsecutive old.number (group ∷ queue)
-      behind = subst (λ u. AreConsecutive old.number (of_underway u ++ queue)) f.underway i.groups
+      behind =
+          subst (λ u. AreConsecutive old.number (of_underway u ++ queue)) f.underway
+          i.between.groups
 
       ahead : IsAhead old.rows old.number (group.entries ++ commands_of queue) front
       ahead =
           subst (λ u. IsAhead old.rows old.number (commands_of (of_underway u ++ queue))
-          front) f.underway i.ahead
+          front) f.underway i.between.ahead
 
       split : pending (group.entries ++ commands_of queue) front
           ≡ group.entries ++ pending (commands_of queue) front
@@ -205,7 +204,7 @@ module _ {D : Type 0} (k : Machine) (front : FrontState) (old new : CommitterSta
           (pending (commands_of queue) front)
           (subst (λ l. Follows front.sizes k old.rows old.number (map filled l)) split before)
           (let numbers = ahead.numbers in
-          let last = i.is.numbers in
+          let last = i.cache.is.numbers in
           let long = ap length split in
           omega (arith, numbers, last, long))
 
@@ -217,25 +216,21 @@ module _ {D : Type 0} (k : Machine) (front : FrontState) (old new : CommitterSta
       (λ j. IsSession j front new queue sealed failed)
   trims roots t = record {
     next = k;
-    does = (i.failed_is ∙ t.sound, refl);
+    does = (i.told.failed_is ∙ t.sound, refl);
     matches = subst (λ c. IsSession k front c queue sealed failed) (sym t.new_is) (record {
-      is = i.is;
-      sizes = i.sizes;
-      running = i.running;
-      groups = subst (λ u. AreConsecutive old.number (of_underway u ++ queue)) t.underway i.groups;
-      busy = refl;
-      ahead = subst (λ u. IsAhead old.rows old.number (commands_of (of_underway u ++ queue)) front)
-          t.underway i.ahead;
-      from_learnt = subst (λ u. IsAheadOfLearnt old.rows old.number
-          (commands_of (of_underway u ++ queue)) front) t.underway i.from_learnt;
+      cache = i.cache;
+      between = record {
+        groups = subst (λ u. AreConsecutive old.number (of_underway u ++ queue)) t.underway
+            i.between.groups;
+        busy = refl;
+        ahead = subst (λ u. IsAhead old.rows old.number (commands_of (of_underway u ++ queue))
+            front) t.underway i.between.ahead;
+        from_learnt = subst (λ u. IsAheadOfLearnt old.rows old.number
+            (commands_of (of_underway u ++ queue)) front) t.underway i.between.from_learnt;
+      };
       follows = subst (λ u. FollowsFront k old.rows old.number
           (commands_of (of_underway u ++ queue)) front) t.underway i.follows;
-      acknowledged_is = i.acknowledged_is;
-      sealed_is = i.sealed_is;
-      sealed_told = i.sealed_told;
-      failed_is = i.failed_is;
-      failed_told = i.failed_told;
-      noticed_is = i.noticed_is;
+      told = i.told;
     });
   }
 
@@ -244,23 +239,19 @@ module _ {D : Type 0} (k : Machine) (front : FrontState) (old new : CommitterSta
       → IsSession k front new queue sealed failed
   begins_trim none is =
       subst (λ c. IsSession k front c queue sealed failed) (sym is) (record {
-        is = i.is;
-        sizes = i.sizes;
-        running = i.running;
-        groups = subst (λ u. AreConsecutive old.number (of_underway u ++ queue)) none i.groups;
-        busy = omega arith;
-        ahead = subst (λ u. IsAhead old.rows old.number (commands_of (of_underway u ++ queue))
-            front) none i.ahead;
-        from_learnt = subst (λ u. IsAheadOfLearnt old.rows old.number
-            (commands_of (of_underway u ++ queue)) front) none i.from_learnt;
+        cache = i.cache;
+        between = record {
+          groups = subst (λ u. AreConsecutive old.number (of_underway u ++ queue)) none
+              i.between.groups;
+          busy = omega arith;
+          ahead = subst (λ u. IsAhead old.rows old.number (commands_of (of_underway u ++ queue))
+              front) none i.between.ahead;
+          from_learnt = subst (λ u. IsAheadOfLearnt old.rows old.number
+              (commands_of (of_underway u ++ queue)) front) none i.between.from_learnt;
+        };
         follows = subst (λ u. FollowsFront k old.rows old.number
             (commands_of (of_underway u ++ queue)) front) none i.follows;
-        acknowledged_is = i.acknowledged_is;
-        sealed_is = i.sealed_is;
-        sealed_told = i.sealed_told;
-        failed_is = i.failed_is;
-        failed_told = i.failed_told;
-        noticed_is = i.noticed_is;
+        told = i.told;
       })
 
   -- ---- a call fails
@@ -269,22 +260,24 @@ module _ {D : Type 0} (k : Machine) (front : FrontState) (old new : CommitterSta
       → ReachesMachine (Advancing k (Err Device)) (λ j. IsSession j front new queue sealed true)
   breaks b = record {
     next = next;
-    does = (i.failed_is ∙ b.sound, refl);
+    does = (i.told.failed_is ∙ b.sound, refl);
     matches = subst (λ c. IsSession next front c queue sealed true) (sym b.new_is) (record {
-      is = i.is;
-      sizes = i.sizes;
-      running = i.running;
-      groups = i.groups;
-      busy = i.busy;
-      ahead = i.ahead;
-      from_learnt = i.from_learnt;
+      cache = i.cache;
+      between = record {
+        groups = i.between.groups;
+        busy = i.between.busy;
+        ahead = i.between.ahead;
+        from_learnt = i.between.from_learnt;
+      };
       follows = same_commands front.sizes k next refl refl i.follows;
-      acknowledged_is = i.acknowledged_is;
-      sealed_is = i.sealed_is;
-      sealed_told = i.sealed_told;
-      failed_is = refl;
-      failed_told = refl;
-      noticed_is = i.noticed_is;
+      told = record {
+        acknowledged_is = i.told.acknowledged_is;
+        sealed_is = i.told.sealed_is;
+        sealed_told = i.told.sealed_told;
+        failed_is = refl;
+        failed_told = refl;
+        noticed_is = i.told.noticed_is;
+      };
     });
   }
     where
@@ -295,7 +288,7 @@ module _ {D : Type 0} (k : Machine) (front : FrontState) (old new : CommitterSta
       → ReachesMachine (Advancing k (Err Broken)) (λ j. IsSession j front new queue sealed failed)
   stays s = record {
     next = k;
-    does = (i.failed_is ∙ s.broken, refl);
+    does = (i.told.failed_is ∙ s.broken, refl);
     matches = subst (λ c. IsSession k front c queue sealed failed) (sym s.stays) i;
   }
 
@@ -319,7 +312,7 @@ pub advanced : {D : Type 0} (next_ahead : CommittedIsAhead) (committed : Committ
 advanced next_ahead committed k front old new queue sealed failed i empty (Ok Idle) r =
     subst (λ b. ReachesMachine (Advancing k (Ok Idle)) (λ j. IsSession j front new queue sealed b))
     (sym (or_false failed))
-    (rests k front old new queue sealed failed i (empty (i.failed_told ∙ r.sound)) r)
+    (rests k front old new queue sealed failed i (empty (i.told.failed_told ∙ r.sound)) r)
 advanced next_ahead committed k front old new queue sealed failed i empty (Ok Working) w =
     subst (λ b. ReachesMachine (Advancing k (Ok Working))
     (λ j. IsSession j front new queue sealed b))
@@ -363,25 +356,25 @@ module _ {D : Type 0} (next : HandedMayBeNext) (k : Machine) (front : FrontState
   behind : AreConsecutive committer.number (group ∷ rest)
   behind =
       joined committer.number
-      (subst (λ u. AreConsecutive committer.number (of_underway u ++ queue)) none i.groups)
+      (subst (λ u. AreConsecutive committer.number (of_underway u ++ queue)) none i.between.groups)
 
   out : commands_of (of_underway committer.underway ++ queue) ≡ commands_of (group ∷ rest)
   out = ap (λ (u : Option Work). commands_of (of_underway u ++ queue)) none ∙ sym same
 
   ahead : IsAhead committer.rows committer.number (commands_of (group ∷ rest)) front
   ahead =
-      subst (λ l. IsAhead committer.rows committer.number l front) out i.ahead
+      subst (λ l. IsAhead committer.rows committer.number l front) out i.between.ahead
 
   comes : MayBeNext committer.rows committer.number group front
   comes =
-      next committer.rows committer.number group (commands_of rest) front i.is ahead
+      next committer.rows committer.number group (commands_of rest) front i.cache.is ahead
 
   -- the group is one that the committer takes
   pub is_taken : committer.broken ≡ false → TakesGroup committer group
   is_taken sound = record {
     sound = sound;
     idle = none;
-    next = subst (λ z. MayCome z committer.rows committer.number group) i.sizes
+    next = subst (λ z. MayCome z committer.rows committer.number group) i.cache.sizes
         (record {
           begins = behind.0;
           ends = comes.ends;
@@ -393,21 +386,16 @@ module _ {D : Type 0} (next : HandedMayBeNext) (k : Machine) (front : FrontState
       → IsSession k front (record committer { underway = Some (Storing group); left = left }) rest
       sealed failed
   takes left some = record {
-    is = i.is;
-    sizes = i.sizes;
-    running = i.running;
-    groups = behind;
-    busy = some;
-    ahead = ahead;
-    from_learnt =
-        subst (λ l. IsAheadOfLearnt committer.rows committer.number l front) out i.from_learnt;
+    cache = i.cache;
+    between = record {
+      groups = behind;
+      busy = some;
+      ahead = ahead;
+      from_learnt = subst (λ l. IsAheadOfLearnt committer.rows committer.number l front) out
+          i.between.from_learnt;
+    };
     follows = subst (λ l. FollowsFront k committer.rows committer.number l front) out i.follows;
-    acknowledged_is = i.acknowledged_is;
-    sealed_is = i.sealed_is;
-    sealed_told = i.sealed_told;
-    failed_is = i.failed_is;
-    failed_told = i.failed_told;
-    noticed_is = i.noticed_is;
+    told = i.told;
   }
 
 -- ---- a trim is requested

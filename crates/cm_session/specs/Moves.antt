@@ -26,7 +26,7 @@ use Rattle.cm_commands.specs.Machine.{Reopens, accepted_to, machine_from}
 use Rattle.cm_session.specs.declared.session.Session.{Session}
 use Rattle.cm_session.specs.declared.session.Sealed.{Sealed}
 use Rattle.cm_session.specs.Images.{StandsFor}
-use Rattle.cm_session.specs.Session.{of_underway, commands_of, NoneContinues, IsSession}
+use Rattle.cm_session.specs.Session.{commands_of, groups_out, NoneContinues, IsSession}
 use Rattle.cm_session.specs.Session.{Past, IsPast}
 
 -- the session matches the machine
@@ -43,7 +43,7 @@ pub record ReachesMachine (Does Matching : Machine → Type 0) : Type 0 where
 
 -- the commands that were handed out and aren't stored yet, oldest first
 abbrev pub unstored : {D : Type 0} → Session D → List Carried
-unstored s = commands_of (of_underway s.committer.underway ++ s.queue.groups.items)
+unstored s = commands_of (groups_out s.committer s.queue.groups.items)
 
 -- This is what the session's accepted cache has learnt, and what was stored since.
 abbrev pub HasPast : {D : Type 0} → Past → Session D → Type 0

@@ -3,6 +3,7 @@
 use Rattle.std.specs.Prelude.{◌≡◌, ℕ, ◌+◌, ◌≤◌, Bool, false, List, [], ◌∷◌, ◌++◌, length}
 use Rattle.std.specs.Prelude.{Option, Some, None}
 use Rattle.std.specs.List.{flat_map}
+use Rattle.cm_pool.specs.Geometry.{Sizes}
 use Rattle.cm_layout.specs.declared.row.Row.{Row}
 use Rattle.cm_group.specs.Groups.{Carried, Handed, IsGroup, IsContinuedBy}
 use Rattle.cm_front.specs.Front.{FrontState, IsFront}
@@ -62,24 +63,47 @@ pub record IsAheadOfLearnt (rows : List (Row (List ℕ))) (number : ℕ) (out : 
 
 -- ---- the session
 
--- The parts of a session match the machine's state: the groups under way and queued lead from what
--- is committed to what is accepted, and the machine's numbers and flags are theirs.
-pub record IsSession {D : Type 0} (k : Machine) (front : FrontState) (committer : CommitterState D)
-    (queue : List Handed) (sealed : ℕ) (failed : Bool) : Type 0 where
+-- the groups that were handed out and aren't stored yet, oldest first
+abbrev pub groups_out : {D : Type 0} → CommitterState D → List Handed → List Handed
+groups_out committer queue = of_underway committer.underway ++ queue
+
+-- The accepted cache is one of these sizes, and isn't closed.
+pub record IsOpen (these : Sizes) (front : FrontState) : Type 0 where
   pub is : IsFront front
-  pub sizes : front.sizes ≡ committer.sizes
+  pub sizes : front.sizes ≡ these
   pub running : front.closed ≡ false
-  pub groups : AreConsecutive committer.number (of_underway committer.underway ++ queue)
+
+-- The groups between the two follow what is committed, and calls are left exactly as long as
+-- something is under way. With their commands the accepted cache is ahead of what is committed, and
+-- of what it learnt.
+pub record AreBetween {D : Type 0} (front : FrontState) (committer : CommitterState D)
+    (queue : List Handed) : Type 0 where
+  pub groups : AreConsecutive committer.number (groups_out committer queue)
   pub busy : IsBusyWith committer.underway committer.left
-  pub ahead : IsAhead committer.rows committer.number
-      (commands_of (of_underway committer.underway ++ queue)) front
+  pub ahead : IsAhead committer.rows committer.number (commands_of (groups_out committer queue))
+      front
   pub from_learnt : IsAheadOfLearnt committer.rows committer.number
-      (commands_of (of_underway committer.underway ++ queue)) front
-  pub follows : FollowsFront k committer.rows committer.number
-      (commands_of (of_underway committer.underway ++ queue)) front
-  pub acknowledged_is : k.acknowledged ≡ committer.number
+      (commands_of (groups_out committer queue)) front
+
+-- What is committed, up to this number, is acknowledged, and what the accepted cache handed out is
+-- sealed. The machine failed if the committer did, and noticed it if the accepted cache did. The
+-- session's own number and flag say the same.
+pub record AreTold (k : Machine) (front : FrontState) (number : ℕ) (broken : Bool)
+    (sealed : ℕ) (failed : Bool) : Type 0 where
+  pub acknowledged_is : k.acknowledged ≡ number
   pub sealed_is : k.sealed ≡ front.sealed
   pub sealed_told : sealed ≡ front.sealed
-  pub failed_is : k.failed ≡ committer.broken
-  pub failed_told : failed ≡ committer.broken
+  pub failed_is : k.failed ≡ broken
+  pub failed_told : failed ≡ broken
   pub noticed_is : k.noticed ≡ front.broken
+
+-- The parts of a session match the machine's state: the groups under way and queued lead from what
+-- is committed to what is accepted, the machine's commands are these, and its numbers and flags are
+-- those of the parts.
+pub record IsSession {D : Type 0} (k : Machine) (front : FrontState) (committer : CommitterState D)
+    (queue : List Handed) (sealed : ℕ) (failed : Bool) : Type 0 where
+  pub cache : IsOpen committer.sizes front
+  pub between : AreBetween front committer queue
+  pub follows : FollowsFront k committer.rows committer.number
+      (commands_of (groups_out committer queue)) front
+  pub told : AreTold k front committer.number committer.broken sealed failed

@@ -223,8 +223,8 @@ pub level_matches : {D : Type 0} (k : Machine) (s : Session D) (number : ℕ) �
     })
 level_matches k s number i told all works = record {
   ahead = record { next = k; does = refl; matches = i };
-  stored = i.acknowledged_is ∙ sym told;
-  accepted = all ∙ i.acknowledged_is ∙ sym told;
+  stored = i.told.acknowledged_is ∙ sym told;
+  accepted = all ∙ i.told.acknowledged_is ∙ sym told;
   works = λ sound. works;
 }
 

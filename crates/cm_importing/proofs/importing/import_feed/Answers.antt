@@ -80,7 +80,7 @@ returns-in-Ok-false-clause-machine g c =
       next = r.next;
       does = feed_ended leaves fn.sizes loader a b d c.number.result (pause k fn.disk)
           (pause so.next old.disk) (pause r.next new.disk) so.does.0 so.does.1 r.does
-          (c.number.ensures ∙ sym r.matches.acknowledged_is);
+          (c.number.ensures ∙ sym r.matches.told.acknowledged_is);
       matches = r.matches;
     }
 

@@ -82,7 +82,7 @@ returns g c = λ disk file.
       };
       past = past_learnt committer.rows committer.number (out_of committer queue) front
           (ap (λ (f : FrontState). f.learnt) opens.front_is.front_is
-          ∙ sym (ap (λ (m : CommitterState _). m.number) opens.committer_is)) matches.ahead;
+          ∙ sym (ap (λ (m : CommitterState _). m.number) opens.committer_is)) matches.between.ahead;
       idle = ap (λ (m : CommitterState _). m.underway) opens.committer_is;
       stands = λ sizes k some. tt;
       fault = tt;

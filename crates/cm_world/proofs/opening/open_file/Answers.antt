@@ -28,7 +28,7 @@ returns-in-Ok-clause-opened c =
       opens = record {
         reopens = o.reaches.does;
         reply_is = ap reply.Opened (c.number.ensures
-            ∙ (sym matches.acknowledged_is
+            ∙ (sym matches.told.acknowledged_is
             ∙ ap (λ (k : Machine). k.acknowledged) o.reaches.does.reopens.next_is));
         contents_stay = subst (λ (z : CommitterState SimDisk).
             sim_contents z.disk ≡ sim_contents disk) same run.contents_stay;

@@ -16,5 +16,5 @@ pub returns-clause-past : goal.returns-clause-past
 returns-clause-past g c =
     let s = c.args.self.now in
     λ k p i h. past_answered p s.front c.accept-number.new.self s.committer s.queue.groups.items h
-    c.ahead_stays_ahead.ensures.accepted (change_asked c.args.command) i.is
+    c.ahead_stays_ahead.ensures.accepted (change_asked c.args.command) i.cache.is
     c.invariant_holds.ensures c.accept-number.result c.accept-number.ensures

@@ -23,7 +23,7 @@ returns-clause-machine g c =
     (sym same) i in
     let sealed = ap (λ (z : Session _). z.front.sealed) same in
     let number = c.number-number.ensures in
-    let handed = then.ahead.sealed in
+    let handed = then.between.ahead.sealed in
     let learnt = on_ok c.learn-known.result
     (c.learn-known.ensures.known.1 (omega (arith, sealed, number, handed)))
     c.learn-known.ensures.ok in
@@ -33,7 +33,7 @@ returns-clause-machine g c =
     (learns laws.learnt laws.failed k s.front c.learn-known.new.self n.committer
     n.queue.groups.items n.sealed n.has_failed c.invariant_holds.ensures then
     (s.front.broken || s.has_failed)
-    (λ j. i.noticed_is j || (i.failed_is ∙ sym i.failed_told) j)
+    (λ j. i.told.noticed_is j || (i.told.failed_is ∙ sym i.told.failed_told) j)
     (learnt
     ∙ (λ j. with_learnt (ap (λ (z : Session _). z.front) same j) (number j))))
 
@@ -42,8 +42,8 @@ returns-clause-told g c =
     let same = c.notice.ensures in
     let number = c.number-number.ensures in
     λ k i.
-    let handed = i.ahead.sealed in
-    let least = i.ahead.learnt in
+    let handed = i.between.ahead.sealed in
+    let least = i.between.ahead.learnt in
     let sealed = ap (λ (z : Session _). z.front.sealed) same in
     let before = ap (λ (z : Session _). z.front.learnt) same in
     let here = ap (λ (z : Session _). z.committer.number) same in
@@ -58,4 +58,4 @@ returns-clause-past g c =
     let n = c.notice.new.self in
     λ k i. past_learnt n.committer.rows n.committer.number
     (out_of n.committer n.queue.groups.items) c.learn-known.new.self
-    (returns-clause-told g c k i) (returns-clause-machine g c k i).matches.ahead
+    (returns-clause-told g c k i) (returns-clause-machine g c k i).matches.between.ahead

@@ -16,8 +16,8 @@ returns-clause-machine g c =
     let law = c.handed_groups_are_next.ensures.next in
     let zero = c.if-steps_left-gt0.false in
     λ k i.
-    let sound = sym i.failed_told ∙ c.if-self.false in
-    let none = none_busy s.committer.underway s.committer.left i.busy
+    let sound = sym i.told.failed_told ∙ c.if-self.false in
+    let none = none_busy s.committer.underway s.committer.left i.between.busy
     (no_calls s.committer.broken (calls_left s.committer.left) c.steps_left.result
     c.steps_left.ensures sound (omega (arith, zero))) in
     let same = c.join_queued-group.ensures.commands ∙ sym (ap commands_of items) in
@@ -43,8 +43,8 @@ returns-clause-taken g c =
     let law = c.handed_groups_are_next.ensures.next in
     let zero = c.if-steps_left-gt0.false in
     λ k i failed none_now.
-    let sound = sym i.failed_told ∙ c.if-self.false in
-    let none = none_busy s.committer.underway s.committer.left i.busy
+    let sound = sym i.told.failed_told ∙ c.if-self.false in
+    let none = none_busy s.committer.underway s.committer.left i.between.busy
     (no_calls s.committer.broken (calls_left s.committer.left) c.steps_left.result
     c.steps_left.ensures sound (omega (arith, zero))) in
     let same = c.join_queued-group.ensures.commands ∙ sym (ap commands_of items) in
@@ -75,8 +75,8 @@ returns-clause-unstored g c =
     let law = c.handed_groups_are_next.ensures.next in
     let zero = c.if-steps_left-gt0.false in
     λ k i.
-    let sound = sym i.failed_told ∙ c.if-self.false in
-    let none = none_busy s.committer.underway s.committer.left i.busy
+    let sound = sym i.told.failed_told ∙ c.if-self.false in
+    let none = none_busy s.committer.underway s.committer.left i.between.busy
     (no_calls s.committer.broken (calls_left s.committer.left) c.steps_left.result
     c.steps_left.ensures sound (omega (arith, zero))) in
     let same = c.join_queued-group.ensures.commands ∙ sym (ap commands_of items) in
@@ -98,8 +98,8 @@ returns-clause-past g c =
     let law = c.handed_groups_are_next.ensures.next in
     let zero = c.if-steps_left-gt0.false in
     λ k p i h.
-    let sound = sym i.failed_told ∙ c.if-self.false in
-    let none = none_busy s.committer.underway s.committer.left i.busy
+    let sound = sym i.told.failed_told ∙ c.if-self.false in
+    let none = none_busy s.committer.underway s.committer.left i.between.busy
     (no_calls s.committer.broken (calls_left s.committer.left) c.steps_left.result
     c.steps_left.ensures sound (omega (arith, zero))) in
     let same = c.join_queued-group.ensures.commands ∙ sym (ap commands_of items) in

@@ -111,7 +111,7 @@ returns-clause-past g c =
     let s = c.args.self.now in
     let group = c.in-Some.group in
     λ k p i h. past_queued p s.front c.seal.new.self s.committer s.queue.groups.items
-    c.push_back_reserved.new.self.items group h c.ahead_stays_ahead.ensures.handed i.is
+    c.push_back_reserved.new.self.items group h c.ahead_stays_ahead.ensures.handed i.cache.is
     c.in-Some.ensures
     (c.push_back_reserved.ensures.items
     ∙ ap (λ (q : List Handed). q ++ group ∷ []) c.reserve.ensures.items)

@@ -16,7 +16,7 @@ groups-init g c =
       λ k i sound. (
         storing_starts k c.number-counter.result _
             (within k s.front s.committer s.queue.groups.items s.sealed s.has_failed i)
-            (c.number-counter.ensures ∙ sym i.acknowledged_is) i,
+            (c.number-counter.ensures ∙ sym i.told.acknowledged_is) i,
         leaves_none view g.met.D.Disk.only_now s.committer.disk
             (StandsForSome s.committer.sizes k) (c.images.ensures k i),
       ),

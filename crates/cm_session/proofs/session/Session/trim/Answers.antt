@@ -11,7 +11,7 @@ returns-clause-machine g c =
 
 pub returns-clause-sound : goal.returns-clause-sound
 returns-clause-sound g c =
-    λ k i is. i.failed_is
+    λ k i is. i.told.failed_is
     ∙ trim_sound g.D.Disk.view c.args.self.now.committer c.trim.new.self c.trim.result
     c.trim.ensures is
 

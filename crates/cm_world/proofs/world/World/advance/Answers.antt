@@ -26,7 +26,7 @@ returns c =
       no_call = does.no_call;
       cause = does.cause;
       works = works_on new.session.queue.groups.items old.session.committer new.session.committer
-          c.advance-answer.result does.steps m.matches.busy;
+          c.advance-answer.result does.steps m.matches.between.busy;
       roots = tells_roots new.session.queue.groups.items old.session.committer
           new.session.committer c.advance-answer.result does.steps
           (λ none. (c.committed.ensures none).each (sim_contents old.session.committer.disk)

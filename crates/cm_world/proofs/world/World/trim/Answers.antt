@@ -19,7 +19,7 @@ returns c =
     (record {
       result = c.trim-answer.result;
       reply_is = c.trim_reply.ensures;
-      trims = trims k old.session.committer new.session.committer i.failed_is
+      trims = trims k old.session.committer new.session.committer i.told.failed_is
           (λ none. (c.committed.ensures none).each (sim_contents old.session.committer.disk)
           (now_left old.session.committer.disk)) c.trim-answer.result does.as_committer;
     })
