@@ -64,12 +64,12 @@ module _ {D : Type 0} (view : View D) (s : CommitterState D)
     (sizes : Sizes) (next : LiveRows (Unit {0})) (roots room : ℕ)
     (i : IsCommitter view s sizes next roots room) where
   abbrev before : Committed
-  before = record { sizes = s.sizes; rows = s.rows; number = s.number; framing = i.framing }
+  before = record { sizes = s.sizes; rows = s.rows; number = s.number; framing = i.is.framing }
 
   shows_before : (image : List ℕ) → HoldsCommitted before image → ShowsCommitted s image
   shows_before image held =
-      shows_cache (record before { framing = held.framing }) image held.right i.records
-      i.cache.differ held.matches
+      shows_cache (record before { framing = held.framing }) image held.right i.is.records
+      i.is.cache.differ held.matches
 
   newest_before : (image : List ℕ) → HoldsCommitted before image → IsNewest image
   newest_before image held = record {
@@ -77,18 +77,18 @@ module _ {D : Type 0} (view : View D) (s : CommitterState D)
     rows = s.rows;
     number = s.number;
     framed = record { framing = held.framing; right = held.right; matches = held.matches };
-    version = omega (arith, i.newest, held.no_older, held.right.good.head.version_to);
+    version = omega (arith, i.is.newest, held.no_older, held.right.good.head.version_to);
   }
 
   -- the half of a checkpoint fits
   pub half : FitsHalf (journal_at s) (bare s.rows)
   half =
-      subst (λ (j : JournalEnd). FitsHalf j (bare s.rows)) (sym i.journal_is)
-      (half_fits before i.right)
+      subst (λ (j : JournalEnd). FitsHalf j (bare s.rows)) (sym i.is.journal_is)
+      (half_fits before i.is.right)
 
   -- the roots that rows use are few
   pub used_few : roots_of_rows s.rows < 2 ^ 32
-  used_few = few_used before i.right
+  used_few = few_used before i.is.right
 
   -- ---- nothing is under way
 
@@ -106,7 +106,7 @@ module _ {D : Type 0} (view : View D) (s : CommitterState D)
         each = λ image is.
             subst (λ (l : List Stage). leaves l (ShowsCommitted s) (ShowsWith s s.underway) image)
             (sym empty)
-            (shows_before image (shows_holds before image i.right (images.each image is)));
+            (shows_before image (shows_holds before image i.is.right (images.each image is)));
       }
 
   pub idle_newest : s.underway ≡ None
@@ -121,7 +121,7 @@ module _ {D : Type 0} (view : View D) (s : CommitterState D)
       at.shows in
       record {
         each = λ image is.
-            newest_before image (shows_holds before image i.right (images.each image is));
+            newest_before image (shows_holds before image i.is.right (images.each image is));
       }
 
   -- ---- stages are left, which lead to what is committed in the end
@@ -226,7 +226,7 @@ module _ {D : Type 0} (view : View D) (s : CommitterState D)
     shows_still : (image : List ℕ) → ContentsShow before image → ShowsWith s s.underway image
     shows_still image shows =
         subst (λ (o : Option Work). ShowsWith s o image) (sym trimming)
-        (shows_before image (shows_holds before image i.right shows))
+        (shows_before image (shows_holds before image i.is.right shows))
 
     pub trim_images : EachImage (view.contents s.disk) (view.unsynced s.disk) (MayLeave s)
     trim_images = stage_images before left_long trim_at.some shows_still trim_at.stands
@@ -234,7 +234,7 @@ module _ {D : Type 0} (view : View D) (s : CommitterState D)
     pub trim_newest : EachImage (view.contents s.disk) (view.unsynced s.disk) IsNewest
     trim_newest =
         stage_newest before left_long trim_at.some shows_still
-        (λ image shows. newest_before image (shows_holds before image i.right shows))
+        (λ image shows. newest_before image (shows_holds before image i.is.right shows))
         trim_at.stands
 
     module _ (sound : s.broken ≡ false) where
@@ -255,16 +255,8 @@ module _ {D : Type 0} (view : View D) (s : CommitterState D)
             → IsCommitter view (record s { disk = new; broken = true }) sizes next
             roots room
         trim_is_broken f e = record {
-          framing = i.framing;
-          newest = i.newest;
-          journal_is = i.journal_is;
-          right = i.right;
-          cache = i.cache;
-          records = i.records;
-          number_is = i.number_is;
-          sizes_are = i.sizes_are;
-          next_is = i.next_is;
-          room_is = i.room_is;
+          is = i.is;
+          beside = i.beside;
           at = subst (λ (o : Option Work). StandsDuring before roots o s.left true
               (view.contents new)
               (view.unsynced new)) (sym trimming) (record {
@@ -281,16 +273,8 @@ module _ {D : Type 0} (view : View D) (s : CommitterState D)
             → IsCommitter view (record s { disk = new; left = left }) sizes next roots
             room
         trim_is_working x e left left_is some = record {
-          framing = i.framing;
-          newest = i.newest;
-          journal_is = i.journal_is;
-          right = i.right;
-          cache = i.cache;
-          records = i.records;
-          number_is = i.number_is;
-          sizes_are = i.sizes_are;
-          next_is = i.next_is;
-          room_is = i.room_is;
+          is = i.is;
+          beside = i.beside;
           at = subst (λ (t : Bool). StandsDuring before roots s.underway left t (view.contents new)
               (view.unsynced new)) (sym sound)
               (subst (λ (o : Option Work). StandsDuring before roots o left false
@@ -325,20 +309,16 @@ module _ {D : Type 0} (view : View D) (s : CommitterState D)
           pub is_trimmed : IsCommitter view
               (record s { disk = new; underway = None; left = [] }) sizes next roots room
           is_trimmed = record {
-            framing = i.framing;
-            newest = i.newest;
-            journal_is = i.journal_is;
-            right = i.right;
-            cache = i.cache;
-            records = i.records;
-            number_is = i.number_is;
-            sizes_are = i.sizes_are;
-            next_is = i.next_is
-                ∙ ap (λ (o : Option Work). record {
-                  sizes = s.sizes;
-                  rows = bare (rows_then s.rows o);
-                }) trimming;
-            room_is = i.room_is;
+            is = i.is;
+            beside = record {
+              sizes_are = i.beside.sizes_are;
+              next_is = i.beside.next_is
+                  ∙ ap (λ (o : Option Work). record {
+                    sizes = s.sizes;
+                    rows = bare (rows_then s.rows o);
+                  }) trimming;
+              room_is = i.beside.room_is;
+            };
             at = record {
               sound = sound;
               durable = trim_stored.durable;
@@ -368,41 +348,41 @@ module _ {D : Type 0} (view : View D) (s : CommitterState D)
     -- where the group is written
     pub target_ready : target_of (journal_at s) (bare s.rows) group.entries ≡ journal_of ready
     target_ready =
-        ap (λ (j : JournalEnd). target_of j (bare s.rows) group.entries) i.journal_is
+        ap (λ (j : JournalEnd). target_of j (bare s.rows) group.entries) i.is.journal_is
         ∙ target_is before group.entries
 
     -- the writes of the group fit
     pub fits : FitsJournal (target_of (journal_at s) (bare s.rows) group.entries) group
     fits =
         subst (λ (j : JournalEnd). FitsJournal j group) (sym target_ready)
-        (fits_journal ready group (ready_right before group i.right busy.is busy.next) busy.is
-        busy.counted (ready_next before group i.right busy.is busy.next))
+        (fits_journal ready group (ready_right before group i.is.right busy.is busy.next) busy.is
+        busy.counted (ready_next before group i.is.right busy.is busy.next))
 
     pub few_roots : roots_of_entries (entries_in group.entries) < 2 ^ 32
     few_roots =
-        let f = fits_journal ready group (ready_right before group i.right busy.is busy.next)
-        busy.is busy.counted (ready_next before group i.right busy.is busy.next) in
+        let f = fits_journal ready group (ready_right before group i.is.right busy.is busy.next)
+        busy.is busy.counted (ready_next before group i.is.right busy.is busy.next) in
         omega (arith, f.roots, f.lawful.roots_to)
 
     pub few_writes : length (all_writes group.entries) < 2 ^ 32
     few_writes =
-        (fits_journal ready group (ready_right before group i.right busy.is busy.next) busy.is
-        busy.counted (ready_next before group i.right busy.is busy.next)).few
+        (fits_journal ready group (ready_right before group i.is.right busy.is busy.next) busy.is
+        busy.counted (ready_next before group i.is.right busy.is busy.next)).few
 
     right-next : IsCommitted after
-    right-next = after_right before group i.right busy.is busy.next i.newest
+    right-next = after_right before group i.is.right busy.is busy.next i.is.newest
 
     newest-next : after.framing.head.version ≡ entry_version
-    newest-next = ready_newest before group i.right busy.is busy.next i.newest
+    newest-next = ready_newest before group i.is.right busy.is busy.next i.is.newest
 
     cache-next : AreCacheRows words_show s.sizes after.number after.rows
     cache-next =
-        cache_after s.sizes s.rows s.rows s.number group.entries i.cache busy.next.entries
+        cache_after s.sizes s.rows s.rows s.number group.entries i.is.cache busy.next.entries
         busy.next.ends
 
     records-next : AreRight after.rows
     records-next =
-        right_rows_after s.sizes s.rows s.rows s.number group.entries i.records busy.is.right
+        right_rows_after s.sizes s.rows s.rows s.number group.entries i.is.records busy.is.right
         busy.next.entries
 
     shows_after : (image : List ℕ) → ContentsShow after image → ShowsWith s s.underway image
@@ -451,16 +431,12 @@ module _ {D : Type 0} (view : View D) (s : CommitterState D)
             → IsCommitter view (record s { disk = new; broken = true }) sizes next
             roots more
         is_broken f e more le = record {
-          framing = i.framing;
-          newest = i.newest;
-          journal_is = i.journal_is;
-          right = i.right;
-          cache = i.cache;
-          records = i.records;
-          number_is = i.number_is;
-          sizes_are = i.sizes_are;
-          next_is = i.next_is;
-          room_is = omega (arith, i.room_is, le);
+          is = i.is;
+          beside = record {
+            sizes_are = i.beside.sizes_are;
+            next_is = i.beside.next_is;
+            room_is = omega (arith, i.beside.room_is, le);
+          };
           at = subst (λ (o : Option Work). StandsDuring before roots o s.left true
               (view.contents new)
               (view.unsynced new)) (sym underway) (record {
@@ -481,16 +457,12 @@ module _ {D : Type 0} (view : View D) (s : CommitterState D)
             → IsCommitter view (record s { disk = new; left = left }) sizes next roots
             more
         is_working x e left left_is some more le = record {
-          framing = i.framing;
-          newest = i.newest;
-          journal_is = i.journal_is;
-          right = i.right;
-          cache = i.cache;
-          records = i.records;
-          number_is = i.number_is;
-          sizes_are = i.sizes_are;
-          next_is = i.next_is;
-          room_is = omega (arith, i.room_is, le);
+          is = i.is;
+          beside = record {
+            sizes_are = i.beside.sizes_are;
+            next_is = i.beside.next_is;
+            room_is = omega (arith, i.beside.room_is, le);
+          };
           at = subst (λ (t : Bool). StandsDuring before roots s.underway left t (view.contents new)
               (view.unsynced new)) (sym sound)
               (subst (λ (o : Option Work). StandsDuring before roots o left false
@@ -523,22 +495,26 @@ module _ {D : Type 0} (view : View D) (s : CommitterState D)
             (ContentsShow after)
             busy.long l (view.contents new) (view.unsynced new)) last (done x e) in
             record {
-              framing = with_group ready.framing (entries_in group.entries);
-              newest = newest-next;
-              journal_is = λ k. record (journal_of after) {
-                end = sym (end_after ready.framing (entries_in group.entries)) k;
+              is = record {
+                framing = with_group ready.framing (entries_in group.entries);
+                newest = newest-next;
+                journal_is = λ k. record (journal_of after) {
+                  end = sym (end_after ready.framing (entries_in group.entries)) k;
+                };
+                right = right-next;
+                cache = cache-next;
+                records = records-next;
+                number_is = busy.next.ends;
               };
-              right = right-next;
-              cache = cache-next;
-              records = records-next;
-              number_is = busy.next.ends;
-              sizes_are = i.sizes_are;
-              next_is = i.next_is
-                  ∙ ap (λ (o : Option Work). record {
-                    sizes = s.sizes;
-                    rows = bare (rows_then s.rows o);
-                  }) underway;
-              room_is = omega (arith, i.room_is, le);
+              beside = record {
+                sizes_are = i.beside.sizes_are;
+                next_is = i.beside.next_is
+                    ∙ ap (λ (o : Option Work). record {
+                      sizes = s.sizes;
+                      rows = bare (rows_then s.rows o);
+                    }) underway;
+                room_is = omega (arith, i.beside.room_is, le);
+              };
               at = record {
                 sound = sound;
                 durable = stored.durable;

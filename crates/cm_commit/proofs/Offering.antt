@@ -83,20 +83,16 @@ module _ {D : Type 0} (view : View D) (s : CommitterState D)
       → IsCommitter view
       (record s { underway = Some Trimming; left = trim_plan s.sizes used }) sizes next used room
   trim_taken sound none used used_is = record {
-    framing = i.framing;
-    newest = i.newest;
-    journal_is = i.journal_is;
-    right = i.right;
-    cache = i.cache;
-    records = i.records;
-    number_is = i.number_is;
-    sizes_are = i.sizes_are;
-    next_is = i.next_is
-        ∙ ap (λ (o : Option Work). record {
-          sizes = s.sizes;
-          rows = bare (rows_then s.rows o);
-        }) none;
-    room_is = i.room_is;
+    is = i.is;
+    beside = record {
+      sizes_are = i.beside.sizes_are;
+      next_is = i.beside.next_is
+          ∙ ap (λ (o : Option Work). record {
+            sizes = s.sizes;
+            rows = bare (rows_then s.rows o);
+          }) none;
+      room_is = i.beside.room_is;
+    };
     at = record {
       some = λ e. absurd (cc);
       roots_are = used_is;
@@ -107,12 +103,12 @@ module _ {D : Type 0} (view : View D) (s : CommitterState D)
           (view.unsynced s.disk) idle.durable
           (subst (λ (n : ℕ). IsReady (HoldsCommitted c) (ContentsShow c) (root_at s.sizes n)
           (trim_plan s.sizes n) now) (sym used_is)
-          (trims_stand c now i.right idle.shows).ready));
+          (trims_stand c now i.is.right idle.shows).ready));
     };
   }
     where
       c : Committed
-      c = record { sizes = s.sizes; rows = s.rows; number = s.number; framing = i.framing }
+      c = record { sizes = s.sizes; rows = s.rows; number = s.number; framing = i.is.framing }
 
       now : List ℕ
       now = view.contents s.disk
@@ -130,7 +126,7 @@ module _ {D : Type 0} (view : View D) (s : CommitterState D)
     (sizes : Sizes) (next : LiveRows (Unit {0})) (roots room : ℕ)
     (i : IsCommitter view s sizes next roots room) (group : Handed) where
   abbrev before : Committed
-  before = record { sizes = s.sizes; rows = s.rows; number = s.number; framing = i.framing }
+  before = record { sizes = s.sizes; rows = s.rows; number = s.number; framing = i.is.framing }
 
   -- the stages of its plan
   abbrev pub plan : List Stage
@@ -154,7 +150,7 @@ module _ {D : Type 0} (view : View D) (s : CommitterState D)
         group.entries
         ≡ plan
     same_plan =
-        λ j. plan_of (sym i.journal_is j) (bare s.rows) (sym idle.roots_are j) group.entries
+        λ j. plan_of (sym i.is.journal_is j) (bare s.rows) (sym idle.roots_are j) group.entries
 
     abbrev after : Committed
     after = committed_after (ready_for before group.entries) group
@@ -165,7 +161,7 @@ module _ {D : Type 0} (view : View D) (s : CommitterState D)
     stands : StagesStand (HoldsCommitted before) (ContentsShow after) (length behind) plan now
         (view.unsynced s.disk)
     stands =
-        let through = groups_go_through before group now i.right is takes.next i.newest tells
+        let through = groups_go_through before group now i.is.right is takes.next i.is.newest tells
         idle.shows in
         subst (λ (l : List Stage). StagesStand (HoldsCommitted before) (ContentsShow after)
         (length (gone_through l now)) l now (view.unsynced s.disk)) same_plan
@@ -188,7 +184,7 @@ module _ {D : Type 0} (view : View D) (s : CommitterState D)
 
     roots_so : roots_then roots group ≡ whole_roots s.sizes (length behind)
     roots_so =
-        let through = groups_go_through before group now i.right is takes.next i.newest tells
+        let through = groups_go_through before group now i.is.right is takes.next i.is.newest tells
         idle.shows in
         ap (λ (k : ℕ). roots_then k group) idle.roots_are
         ∙ through.roots
@@ -213,16 +209,12 @@ module _ {D : Type 0} (view : View D) (s : CommitterState D)
         }
         → IsCommitter view with_group_underway sizes new roots room
     taken new new_is = record {
-      framing = i.framing;
-      newest = i.newest;
-      journal_is = i.journal_is;
-      right = i.right;
-      cache = i.cache;
-      records = i.records;
-      number_is = i.number_is;
-      sizes_are = i.sizes_are;
-      next_is = new_is;
-      room_is = i.room_is;
+      is = i.is;
+      beside = record {
+        sizes_are = i.beside.sizes_are;
+        next_is = new_is;
+        room_is = i.beside.room_is;
+      };
       at = busy;
     }
 

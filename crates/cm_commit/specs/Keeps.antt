@@ -112,24 +112,37 @@ StandsDuring c roots (Some (Storing group)) left broken contents unsynced =
 abbrev pub most_written : Sizes → ℕ
 most_written sizes = max (root_size sizes) (half_size sizes)
 
+-- What is committed is a cache of these rows, all records of which are right, and the journal
+-- continues where a framing of it in the newest version ends.
+pub record IsCommitted (journal : JournalEnd) (sizes : Sizes) (rows : List (Row (List ℕ)))
+    (number : ℕ) : Type 0 where
+  pub framing : Framing
+  pub newest : framing.head.version ≡ entry_version
+  pub journal_is : journal ≡ journal_of (record {
+    sizes = sizes;
+    rows = rows;
+    number = number;
+    framing = framing;
+  })
+  pub right : IsRightFraming sizes framing rows number
+  pub cache : AreCacheRows words_show sizes number rows
+  pub records : AreRight rows
+  pub number_is : number ≤ 2 ^ 63
+
+-- Beside it the committer keeps the rows after what is under way, without their records, and a
+-- buffer with room for what is written at once.
+pub record IsKeptBeside (sizes kept_sizes : Sizes) (rows : List (Row (List ℕ)))
+    (next : LiveRows (Unit {0})) (room : ℕ) : Type 0 where
+  pub sizes_are : kept_sizes ≡ sizes
+  pub next_is : next ≡ record { sizes = sizes; rows = bare rows }
+  pub room_is : most_written sizes ≤ room
+
+-- And the disk is as what is under way, if anything is, has left it by now.
 pub record IsCommitter {D : Type 0} (view : View D)
     (s : CommitterState D) (sizes : Sizes) (next : LiveRows (Unit {0}))
     (roots room : ℕ) : Type 0 where
-  pub framing : Framing
-  pub newest : framing.head.version ≡ entry_version
-  pub journal_is : journal_at s ≡ journal_of (record {
-    sizes = s.sizes;
-    rows = s.rows;
-    number = s.number;
-    framing = framing;
-  })
-  pub right : IsRightFraming s.sizes framing s.rows s.number
-  pub cache : AreCacheRows words_show s.sizes s.number s.rows
-  pub records : AreRight s.rows
-  pub number_is : s.number ≤ 2 ^ 63
-  pub sizes_are : sizes ≡ s.sizes
-  pub next_is : next ≡ record { sizes = s.sizes; rows = bare (rows_then s.rows s.underway) }
-  pub room_is : most_written s.sizes ≤ room
+  pub is : IsCommitted (journal_at s) s.sizes s.rows s.number
+  pub beside : IsKeptBeside s.sizes sizes (rows_then s.rows s.underway) next room
   pub at : StandsDuring
-      (record { sizes = s.sizes; rows = s.rows; number = s.number; framing = framing })
+      (record { sizes = s.sizes; rows = s.rows; number = s.number; framing = is.framing })
       roots s.underway s.left s.broken (view.contents s.disk) (view.unsynced s.disk)

@@ -258,7 +258,7 @@ finish-receipt-requires-clause-above g c =
     ap (λ (j : JournalEnd). j.number) c.target_of-target.ensures ∙ stays.1 in
     above_own arc_value s.rows.rows (to.number + 1)
     (rw number
-    (next_above s.journal.geometry s.journal.number (bare rows) c.self.invariant.cache.live))
+    (next_above s.journal.geometry s.journal.number (bare rows) c.self.invariant.is.cache.live))
 
 pub finish-receipt-requires-clause-kept : goal.finish-receipt-requires-clause-kept
 finish-receipt-requires-clause-kept g c =
@@ -274,7 +274,7 @@ finish-receipt-requires-clause-kept g c =
     let b = busy g.D.Disk.view v s.rows.sizes s.next s.roots
     (vec_capacity s.buffer) c.self.invariant
     c.unwrap-group.result underway in
-    (λ i. keep_rules (c.self.invariant.sizes_are i) (sym (bare-with arc_value s.rows.rows) i)
+    (λ i. keep_rules (c.self.invariant.beside.sizes_are i) (sym (bare-with arc_value s.rows.rows) i)
     (number i + 1) (entries_in c.unwrap-group.result.entries))
     ∙ rules_kept s.journal.geometry rows rows s.journal.number c.unwrap-group.result.entries
     b.next.entries

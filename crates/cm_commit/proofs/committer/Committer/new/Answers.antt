@@ -8,19 +8,23 @@ pub invariant_of-result : goal.invariant_of-result
 invariant_of-result g c =
     let held = c.requires.held in
     record {
-      framing = held.framing;
-      newest = held.version_is;
-      journal_is = held.journal_is;
-      right = held.right;
-      cache = held.cache;
-      records = held.records;
-      number_is = held.number_is;
-      sizes_are = c.requires.sizes;
-      next_is = c.in-Ok.next-is
-          ∙ (c.in-Ok.ensures.next
-          ∙ ap (λ (l : List BareRow). record { sizes = c.args.journal.geometry; rows = l })
-          (sym (bare-with arc_value c.args.rows.rows)));
-      room_is = rw c.in-Ok.buffer-is c.in-Ok.ensures.room;
+      is = record {
+        framing = held.framing;
+        newest = held.version_is;
+        journal_is = held.journal_is;
+        right = held.right;
+        cache = held.cache;
+        records = held.records;
+        number_is = held.number_is;
+      };
+      beside = record {
+        sizes_are = c.requires.sizes;
+        next_is = c.in-Ok.next-is
+            ∙ (c.in-Ok.ensures.next
+            ∙ ap (λ (l : List BareRow). record { sizes = c.args.journal.geometry; rows = l })
+            (sym (bare-with arc_value c.args.rows.rows)));
+        room_is = rw c.in-Ok.buffer-is c.in-Ok.ensures.room;
+      };
       at = record {
         sound = refl;
         durable = held.durable;
