@@ -6,7 +6,6 @@ use cm_commands::Refusal;
 use cm_disk::{Disk, SimDisk};
 use cm_importing::{ImportFault, import};
 use cm_pool::Geometry;
-use cm_recover::format;
 use cm_verdict::{FileFault, OpenFault};
 use std::alloc::Global;
 use std::test::*;
@@ -15,11 +14,7 @@ use std::thread::Threads;
 /// A disk in memory that holds the empty cache of the least sizes.
 pub fn new_disk(alloc: Global) -> Result<SimDisk, Fail> {
     let geometry = Geometry::new(3, 64, 256).ok_or("sizes")?;
-    let mut disk = SimDisk::new(alloc);
-    if format(alloc, &mut disk, geometry).is_err() {
-        return Err("a new cache".into());
-    }
-    Ok(disk)
+    Ok(cm_samples::new_disk(alloc, geometry)?)
 }
 
 /// Imports groups of classes of these names into the loader `app`: the result, what the feed was
