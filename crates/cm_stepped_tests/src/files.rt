@@ -1,7 +1,7 @@
 //! Files that are made by the calls that are listed.
 
 use crate::device::make;
-use cm_pool::Geometry;
+use cm_samples::least_geometry;
 use cm_stepped::{Broken, BytesFault, CallList, open_bytes};
 use cm_verdict::{FileFault, OpenFault};
 use std::alloc::Global;
@@ -9,8 +9,9 @@ use std::test::*;
 
 /// A new file of the least sizes.
 pub fn new_file(alloc: Global) -> Result<Vec<u8>, Fail> {
-    let geometry = Geometry::new(3, 1, 256).ok_or("sizes")?;
-    let mut list = CallList::format(alloc, geometry).ok().ok_or("not listed")?;
+    let mut list = CallList::format(alloc, least_geometry())
+        .ok()
+        .ok_or("not listed")?;
     let mut file = Vec::new(alloc);
     for _ in 0..100 {
         let Some(call) = list.call() else {
@@ -34,8 +35,7 @@ fn a_listed_format_makes_a_cache(rt: HostRuntime) -> Result<(), Fail> {
 
 #[test]
 fn no_call_is_listed_past_one_that_failed(rt: HostRuntime) -> Result<(), Fail> {
-    let geometry = Geometry::new(3, 1, 256).ok_or("sizes")?;
-    let mut list = CallList::format(rt.alloc(), geometry)
+    let mut list = CallList::format(rt.alloc(), least_geometry())
         .ok()
         .ok_or("not listed")?;
     assert!(rt; list.step(true).is_ok());

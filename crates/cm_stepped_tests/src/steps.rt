@@ -1,9 +1,10 @@
 //! Steps of a cache, with each call made by the test.
 
-use crate::device::{class_bytes, make};
+use crate::device::make;
 use crate::files::new_file;
-use cm_commands::{Command, Refusal, prepare};
+use cm_commands::{Command, Refusal};
 use cm_deferred_disk::DeferredDisk;
+use cm_samples::class;
 use cm_stepped::{Broken, Step, SteppedSession, open_bytes};
 use std::alloc::Global;
 use std::test::*;
@@ -23,11 +24,8 @@ fn accept_two(alloc: Global, session: &mut SteppedSession<DeferredDisk>) -> Resu
         .accept(Command::AddLoader(b"a"))
         .ok()
         .ok_or("no loader")?;
-    let class = prepare(alloc, &class_bytes(alloc, b'A')?)
-        .ok()
-        .ok_or("a class")?;
     let _class = session
-        .accept(Command::Define(b"a", class))
+        .accept(Command::Define(b"a", class(alloc, b"A")?))
         .ok()
         .ok_or("no class")?;
     Ok(())
