@@ -1,6 +1,6 @@
 //! What is found in the front of a small file, and which damage is reported first.
 
-use crate::disks::put;
+use crate::file_samples::put;
 use crate::found::Found::{Damaged, NotACache, Sound};
 use crate::found::{Found, Summary};
 use crate::halves::{Told, find_half, small_front};

@@ -1,49 +1,23 @@
 //! Files of one loader with two classes, each in a group of its own, with their records.
 
-use crate::disks::put;
 use cm_commands::{Prepared, prepare};
 use cm_layout::{
     ClassRow, ENTRY_VERSION, GroupHead, HalfHead, LoaderRow, SLOT_BYTES, SUPERBLOCK_BYTES,
     SlotName, Superblock,
 };
-use cm_pool::{Chunk, Geometry, Place};
+use cm_pool::{Chunk, Place};
+use cm_samples::{class, padded_class_file, small_geometry};
 use std::alloc::Global;
 use std::test::Fail;
-
-/// The class `A`, whose record has 16 words.
-pub const CLASS_A: &[u8] = b"cafebabe000000340005070002010001410700040100106a6176612f6c616e672f4f\
-    626a6563740021000100030000000000000000";
-
-// The position of its name.
-const NAME_AT: usize = 16;
-
-/// The class `B` with an attribute of no bytes, whose record has 20 words.
-pub const CLASS_B: &[u8] = b"cafebabe000000340006070002010001420700040100106a6176612f6c616e672f4f\
-    626a6563740100015800210001000300000000000000010005\
-    00000000";
 
 /// Where the roots begin.
 pub const ROOTS_AT: usize = 36_864;
 
-// The class that has these bytes.
-fn class_of_bytes(alloc: Global, bytes: &[u8]) -> Result<Prepared, Fail> {
-    match prepare(alloc, bytes) {
-        Ok(class) => Ok(class),
-        Err(_) => Err("a class".into()),
+/// Writes a byte at a position, if there is one.
+pub fn put(bytes: &mut [u8], at: usize, byte: u8) {
+    if let Some(there) = bytes.get_mut(at) {
+        *there = byte;
     }
-}
-
-// The class that a text spells.
-fn class(alloc: Global, text: &[u8]) -> Result<Prepared, Fail> {
-    let bytes = hex::decode(alloc, text)?;
-    class_of_bytes(alloc, &bytes)
-}
-
-/// The class of this name of one letter, whose record has 16 words.
-pub fn class_of_name(alloc: Global, name: u8) -> Result<Prepared, Fail> {
-    let mut bytes = hex::decode(alloc, CLASS_A)?;
-    put(&mut bytes, NAME_AT, name);
-    class_of_bytes(alloc, &bytes)
 }
 
 fn record_bytes(alloc: Global, class: &Prepared) -> Result<Vec<u8>, Fail> {
@@ -113,16 +87,18 @@ fn push_rest(
     Ok(())
 }
 
-fn file_with(alloc: Global, first: &Prepared, second: &Prepared) -> Result<Vec<u8>, Fail> {
-    let geometry = Geometry::new(3, 2, 256).ok_or("within the limits")?;
+/// The bytes of a file with one root, in which these classes are defined.
+pub fn file_of(alloc: Global, first: &Prepared, second: &Prepared) -> Result<Vec<u8>, Fail> {
+    let geometry = small_geometry();
     let mut bytes = Superblock { geometry }.encode(alloc)?;
     push_rest(alloc, &mut bytes, first, second)?;
     Ok(bytes)
 }
 
-/// The bytes of a file with one root, in which these classes are defined.
-pub fn file_of(alloc: Global, first: &[u8], second: &[u8]) -> Result<Vec<u8>, Fail> {
-    let first = class(alloc, first)?;
-    let second = class(alloc, second)?;
-    file_with(alloc, &first, &second)
+/// The same with the class `A`, whose record has 16 words, and the class `B` with an attribute of
+/// no bytes, whose record has 20.
+pub fn file_of_two(alloc: Global) -> Result<Vec<u8>, Fail> {
+    let first = class(alloc, b"A")?;
+    let second = prepare(alloc, &padded_class_file(alloc, b"B", 0)?)?;
+    file_of(alloc, &first, &second)
 }

@@ -1,9 +1,9 @@
 //! What takes how much of a file.
 
-use crate::disks::bytes_of;
 use crate::stored_calls::Call::{Define, Loader};
 use crate::stored_calls::{Call, disk_after};
 use cm_pool::Chunk;
+use cm_samples::bytes_of;
 use cm_statistics::{OwnedChunk, Usage, statistics};
 use std::test::*;
 

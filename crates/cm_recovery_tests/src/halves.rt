@@ -9,6 +9,7 @@ use crate::found::{Summary, tell_half};
 use cm_layout::{Half, SLOT_BYTES, SUPERBLOCK_BYTES, Superblock};
 use cm_pool::Geometry;
 use cm_rows::LiveRows;
+use cm_samples::least_geometry;
 use cm_verdict::{Counting, FileFault, counting_half, find_sizes, walk_through};
 use std::alloc::Global;
 use std::test::Fail;
@@ -17,7 +18,7 @@ pub type Told = Result<Summary, FileFault>;
 
 /// A file's superblock and halves.
 pub fn small_front(alloc: Global) -> Result<Vec<u8>, Fail> {
-    let geometry = Geometry::new(3, 1, 256).ok_or("within the limits")?;
+    let geometry = least_geometry();
     let mut bytes = Superblock { geometry }.encode(alloc)?;
     push_halves(&mut bytes, 16, 20)?;
     Ok(bytes)

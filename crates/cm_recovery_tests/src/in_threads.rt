@@ -1,11 +1,11 @@
 //! Files that are opened in threads: with any number of them what is opened is the same, and so is
 //! the first damage.
 
-use crate::disks::{bytes_of, disk_of, put};
-use crate::file_samples::ROOTS_AT;
+use crate::file_samples::{ROOTS_AT, put};
 use crate::stored_calls::Call::{Define, Loader};
 use crate::stored_calls::{Call, disk_after};
 use cm_recover::{NotOpened, open, open_in_threads};
+use cm_samples::{bytes_of, disk_of};
 use cm_verdict::{Damage, FileFault, OpenFault};
 use std::alloc::Global;
 use std::test::*;

@@ -5,8 +5,6 @@
 #[cfg(test)]
 mod damages;
 #[cfg(test)]
-mod disks;
-#[cfg(test)]
 mod file_samples;
 #[cfg(test)]
 mod file_use;

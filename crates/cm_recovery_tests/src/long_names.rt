@@ -1,14 +1,14 @@
 //! Loaders whose names take two slots: what is found in the front of a file, and which damage is
 //! reported first.
 
-use crate::disks::put;
+use crate::file_samples::put;
 use crate::found::Found::{Damaged, Sound};
 use crate::found::{Found, Summary};
 use crate::halves::{find_half, small_front};
 use cm_layout::{
     ENTRY_VERSION, GroupHead, HalfHead, LoaderRow, OLDEST_VERSION, SlotName, Superblock,
 };
-use cm_pool::Geometry;
+use cm_samples::least_geometry;
 use cm_verdict::{Damage, FileFault};
 use std::alloc::Global;
 use std::test::*;
@@ -77,7 +77,7 @@ fn push_half(bytes: &mut Vec<u8>, sample: &Sample<'_>) -> Result<(), Fail> {
 
 /// The front of a file with this half 0. Half 1 was never used.
 fn front_of(alloc: Global, sample: &Sample<'_>) -> Result<Vec<u8>, Fail> {
-    let geometry = Geometry::new(3, 1, 256).ok_or("within the limits")?;
+    let geometry = least_geometry();
     let mut bytes = Superblock { geometry }.encode(alloc)?;
     push_half(&mut bytes, sample)?;
     bytes.resize(LONG, 0)?;
@@ -428,7 +428,7 @@ const FULL: [(usize, Group<'_>, Found<Summary>); 6] = [
 ];
 
 fn front_of_long_names(alloc: Global, count: usize, more: Group<'_>) -> Result<Vec<u8>, Fail> {
-    let geometry = Geometry::new(3, 1, 256).ok_or("within the limits")?;
+    let geometry = least_geometry();
     let mut bytes = Superblock { geometry }.encode(alloc)?;
     bytes.extend_from_slice(&NEW.encode())?;
     let mut number = 0;

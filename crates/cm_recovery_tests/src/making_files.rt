@@ -4,6 +4,7 @@ use crate::found::{EMPTY, Summary, find_in};
 use cm_disk::{Choice, DeviceFault, Disk, FuseDisk, SimDisk};
 use cm_pool::Geometry;
 use cm_recover::{FormatFault, format};
+use cm_samples::least_geometry;
 use cm_verdict::{FileFault, OpenFault};
 use std::alloc::Global;
 use std::test::*;
@@ -57,22 +58,17 @@ fn make_of_byte(
 
 #[test]
 fn a_file_that_has_bytes_stays(rt: HostRuntime) -> Result<(), Fail> {
-    let geometry = Geometry::new(3, 1, 256).ok_or("within the limits")?;
-    let left = make_of_byte(rt.alloc(), &mut SimDisk::new(rt.alloc()), geometry)?;
+    let mut disk = SimDisk::new(rt.alloc());
+    let left = make_of_byte(rt.alloc(), &mut disk, least_geometry())?;
     assert_eq!(rt; left, (Err(FormatFault::NotEmpty), 1, *b"x", 0));
     Ok(())
 }
 
 /// Lets this many calls succeed; a write that fails stores this many bytes.
-fn stop_making(
-    alloc: Global,
-    pass: u64,
-    stores: usize,
-) -> Result<(Result<(), FormatFault>, SimDisk), Fail> {
-    let geometry = Geometry::new(3, 1, 256).ok_or("within the limits")?;
+fn stop_making(alloc: Global, pass: u64, stores: usize) -> (Result<(), FormatFault>, SimDisk) {
     let mut fuse = FuseDisk::new(SimDisk::new(alloc), pass, stores);
-    let made = format(alloc, &mut fuse, geometry);
-    Ok((made, fuse.into_inner()))
+    let made = format(alloc, &mut fuse, least_geometry());
+    (made, fuse.into_inner())
 }
 
 /// How many calls succeed, how many bytes a failing write stores, the length and the bytes that a
@@ -105,7 +101,7 @@ fn crash_as_chosen(
     stores: usize,
     choice: &Choice,
 ) -> Result<(bool, Result<Summary, OpenFault>), Fail> {
-    let (made, disk) = stop_making(alloc, pass, stores)?;
+    let (made, disk) = stop_making(alloc, pass, stores);
     let mut left = disk.crash(alloc, choice)?;
     Ok((made.is_ok(), find_in(alloc, &mut left)))
 }

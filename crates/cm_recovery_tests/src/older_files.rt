@@ -1,11 +1,10 @@
 //! Files of version 1 are upgraded when they are opened.
 
-use crate::disks::{bytes_of, disk_of, put};
-use crate::file_samples::{CLASS_A, CLASS_B, file_of};
+use crate::file_samples::{file_of_two, put};
 use cm_disk::{Choice, FuseDisk, SimDisk};
 use cm_maintenance::check;
-use cm_pool::Geometry;
-use cm_recover::{NotOpened, format, open};
+use cm_recover::{NotOpened, open};
+use cm_samples::{bytes_of, disk_of, new_disk, small_geometry};
 use cm_verdict::{Damage, FileFault, OpenFault};
 use std::alloc::Global;
 use std::test::*;
@@ -29,7 +28,7 @@ const WHOLE: Told = Ok((3, [16, 20]));
 
 /// The file of two classes, with this version in its half.
 fn file_of_version(alloc: Global, version: u8) -> Result<Vec<u8>, Fail> {
-    let mut file = file_of(alloc, CLASS_A, CLASS_B)?;
+    let mut file = file_of_two(alloc)?;
     put(&mut file, HALF_0 + VERSION_AT, version);
     Ok(file)
 }
@@ -127,12 +126,7 @@ fn a_stop_while_it_is_moved_over_loses_nothing(rt: HostRuntime) -> Result<(), Fa
 #[test]
 fn an_empty_older_file_is_moved_over(rt: HostRuntime) -> Result<(), Fail> {
     let alloc = rt.alloc();
-    let mut disk = SimDisk::new(alloc);
-    format(
-        alloc,
-        &mut disk,
-        Geometry::new(3, 2, 256).ok_or("within the limits")?,
-    )?;
+    let mut disk = new_disk(alloc, small_geometry())?;
     let mut file = bytes_of(alloc, &mut disk)?;
     assert_eq!(rt; head_at(&file, HALF_0), Some([0xA5, 2, 0, 1, 0]));
     put(&mut file, HALF_0 + VERSION_AT, 1);

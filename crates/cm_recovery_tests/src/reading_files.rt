@@ -3,21 +3,10 @@
 use crate::found::Found::{Damaged, NotACache, Sound};
 use crate::found::{EMPTY, Found, NEW, Summary, find_in};
 use cm_disk::{Disk, FuseDisk, SimDisk};
-use cm_pool::Geometry;
-use cm_recover::format;
+use cm_samples::{least_geometry, new_disk};
 use cm_verdict::{Damage, OpenFault};
 use std::alloc::Global;
 use std::test::*;
-
-/// A new file of 256 slots in each half.
-fn small(alloc: Global) -> Result<SimDisk, Fail> {
-    let geometry = Geometry::new(3, 1, 256).ok_or("within the limits")?;
-    let mut disk = SimDisk::new(alloc);
-    if format(alloc, &mut disk, geometry).is_err() {
-        return Err("the disk doesn't fail".into());
-    }
-    Ok(disk)
-}
 
 type Told = Result<Summary, OpenFault>;
 
@@ -43,7 +32,7 @@ fn change(disk: &mut SimDisk, at: u64, byte: u8) -> Result<(), Fail> {
 }
 
 fn find_with(alloc: Global, at: u64, byte: u8) -> Result<Told, Fail> {
-    let mut disk = small(alloc)?;
+    let mut disk = new_disk(alloc, least_geometry())?;
     change(&mut disk, at, byte)?;
     Ok(find_in(alloc, &mut disk))
 }
@@ -65,7 +54,7 @@ fn cut(disk: &mut SimDisk, len: u64) -> Result<(), Fail> {
 }
 
 fn find_short(alloc: Global, len: u64) -> Result<Told, Fail> {
-    let mut disk = small(alloc)?;
+    let mut disk = new_disk(alloc, least_geometry())?;
     cut(&mut disk, len)?;
     Ok(find_in(alloc, &mut disk))
 }
@@ -90,7 +79,7 @@ fn a_short_file_is_no_cache_or_damaged(rt: HostRuntime) -> Result<(), Fail> {
 
 /// What is found if a call fails after this many, and then if none does, with the syncs.
 fn find_behind(alloc: Global, pass: u64) -> Result<(Told, Told, u64), Fail> {
-    let mut fuse = FuseDisk::new(small(alloc)?, pass, 0);
+    let mut fuse = FuseDisk::new(new_disk(alloc, least_geometry())?, pass, 0);
     let broken = find_in(alloc, &mut fuse);
     let mut disk = fuse.into_inner();
     disk.disarm();

@@ -1,10 +1,10 @@
 //! What is reported about files that hold a cache.
 
-use crate::disks::{bytes_of, disk_of};
 use crate::stored_calls::Call::{Define, Loader, Tighten, Unload, UnloadAll};
-use crate::stored_calls::{Call, disk_after, new_disk};
+use crate::stored_calls::{Call, disk_after};
 use cm_disk::{Disk, FuseDisk, SimDisk};
 use cm_maintenance::{Report, check};
+use cm_samples::{bytes_of, disk_of};
 use cm_verdict::OpenFault;
 use std::alloc::Global;
 use std::test::*;

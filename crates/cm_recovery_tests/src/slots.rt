@@ -1,5 +1,5 @@
 //! Slots of heads, rows and entries, written and read.
-use crate::disks::put;
+use crate::file_samples::put;
 use cm_layout::{
     ClassRow, ENTRY_VERSION, Entry, GroupHead, HalfHead, LoaderNumbers, LoaderRow, Move,
     OLDEST_VERSION, Row, SLOT_BYTES, SlotName, Slots, Unload, UnloadAll, is_loader_name,

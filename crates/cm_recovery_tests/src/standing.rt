@@ -1,11 +1,11 @@
 //! What files stand for, and which damage of a record is reported first.
 
-use crate::disks::{disk_of, put};
-use crate::file_samples::{CLASS_A, CLASS_B, ROOTS_AT, file_of};
+use crate::file_samples::{ROOTS_AT, file_of, file_of_two, put};
 use crate::found::Found;
 use crate::found::Found::{Damaged, NotACache, Sound};
 use cm_disk::{Disk, FuseDisk};
 use cm_recover::{StandingFile, read_standing};
+use cm_samples::{class, disk_of};
 use cm_verdict::{Damage, OpenFault};
 use std::alloc::Global;
 use std::test::*;
@@ -97,7 +97,7 @@ fn first_other_change(alloc: Global, file: &[u8]) -> Result<Option<(usize, u8)>,
 
 #[test]
 fn the_first_damage_of_a_record_is_told(rt: HostRuntime) -> Result<(), Fail> {
-    let file = file_of(rt.alloc(), CLASS_A, CLASS_B)?;
+    let file = file_of_two(rt.alloc())?;
     assert_eq!(rt; first_other_change(rt.alloc(), &file)?, None);
     Ok(())
 }
@@ -124,14 +124,15 @@ fn first_other_beginning(alloc: Global, file: &[u8]) -> Result<Option<usize>, Fa
 
 #[test]
 fn a_record_lies_in_a_whole_root(rt: HostRuntime) -> Result<(), Fail> {
-    let file = file_of(rt.alloc(), CLASS_A, CLASS_B)?;
+    let file = file_of_two(rt.alloc())?;
     assert_eq!(rt; first_other_beginning(rt.alloc(), &file)?, None);
     Ok(())
 }
 
 #[test]
 fn a_class_is_defined_once_in_a_loader(rt: HostRuntime) -> Result<(), Fail> {
-    let file = file_of(rt.alloc(), CLASS_A, CLASS_A)?;
+    let class = class(rt.alloc(), b"A")?;
+    let file = file_of(rt.alloc(), &class, &class)?;
     let told = tell_standing(rt.alloc(), &file)?;
     assert_eq!(rt; told, Damaged(Damage::ClassTwice, 6).on_disk());
     Ok(())
@@ -158,7 +159,7 @@ fn first_other_failure(alloc: Global, file: &[u8]) -> Result<Option<u64>, Fail> 
 
 #[test]
 fn a_failing_call_is_told(rt: HostRuntime) -> Result<(), Fail> {
-    let file = file_of(rt.alloc(), CLASS_A, CLASS_B)?;
+    let file = file_of_two(rt.alloc())?;
     assert_eq!(rt; first_other_failure(rt.alloc(), &file)?, None);
     Ok(())
 }

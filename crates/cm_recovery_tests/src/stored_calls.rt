@@ -1,11 +1,10 @@
 //! Commands as values, so that a test is a table of commands and what they leave, and disks on
 //! which they are stored.
 
-use crate::file_samples::class_of_name;
 use cm_commands::{Command, Names};
 use cm_disk::SimDisk;
-use cm_pool::Geometry;
-use cm_recover::{NotOpened, format};
+use cm_recover::NotOpened;
+use cm_samples::{class, new_disk, small_geometry};
 use cm_session::{Session, open};
 use std::alloc::Global;
 use std::test::Fail;
@@ -24,7 +23,7 @@ fn store(alloc: Global, session: &mut Session<SimDisk>, call: Call) -> Result<bo
     let answer = match call {
         Call::Loader(loader) => session.store(Command::AddLoader(&[loader])),
         Call::Define(loader, name) => {
-            session.store(Command::Define(&[loader], class_of_name(alloc, name)?))
+            session.store(Command::Define(&[loader], class(alloc, &[name])?))
         }
         Call::Unload(loader) => session.store(Command::Unload(&[loader])),
         Call::Tighten(loader) => session.store(Command::Tighten(&[loader])),
@@ -42,16 +41,6 @@ fn store_all(alloc: Global, session: &mut Session<SimDisk>, calls: &[Call]) -> R
     Ok(())
 }
 
-/// A new file of two roots of 1,024 words and of 256 slots in each half.
-pub fn new_disk(alloc: Global) -> Result<SimDisk, Fail> {
-    let geometry = Geometry::new(3, 2, 256).ok_or("within the limits")?;
-    let mut disk = SimDisk::new(alloc);
-    if format(alloc, &mut disk, geometry).is_err() {
-        return Err("the disk doesn't fail".into());
-    }
-    Ok(disk)
-}
-
 fn open_stored(alloc: Global, disk: SimDisk) -> Result<Session<SimDisk>, Fail> {
     match open(alloc, disk) {
         Ok(session) => Ok(session),
@@ -64,9 +53,9 @@ fn open_stored(alloc: Global, disk: SimDisk) -> Result<Session<SimDisk>, Fail> {
     }
 }
 
-/// A new file on which these commands are stored, one after another.
+/// A new file of small sizes on which these commands are stored, one after another.
 pub fn disk_after(alloc: Global, calls: &[Call]) -> Result<SimDisk, Fail> {
-    let mut session = open_stored(alloc, new_disk(alloc)?)?;
+    let mut session = open_stored(alloc, new_disk(alloc, small_geometry())?)?;
     let stored = store_all(alloc, &mut session, calls);
     let disk = session.into_disk();
     stored?;
