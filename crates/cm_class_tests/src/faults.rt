@@ -1,6 +1,7 @@
 //! Bytes that are no class file, and their faults.
-use crate::samples::{CLASS_A, EACH_KIND, join_parts, with_byte};
+use crate::samples::{EACH_KIND, join_parts, with_byte};
 use cm_class::{ShapeFault, read_shape};
+use cm_samples::CLASS_A;
 use std::alloc::{AllocError, Global};
 use std::test::Fail;
 

@@ -1,10 +1,11 @@
 //! Records that are laid straight from a class file's bytes, beside those of the class that is
 //! read.
 use crate::record_samples::ALL_TAGS;
-use crate::samples::{CLASS_A, EACH_KIND, join_parts, with_attribute};
+use crate::samples::{EACH_KIND, join_parts};
 use cm_class::{ShapeFault, read_shape};
 use cm_record::{RecordRefusal, build};
 use cm_record_laying::lay_file;
+use cm_samples::{CLASS_A, padded_class_file};
 use cm_words::WordBuf;
 use std::alloc::{AllocError, Global};
 
@@ -106,7 +107,7 @@ fn whole_classes_are_laid(rt: HostRuntime) {
 #[test]
 fn laid_records_have_a_limit(rt: HostRuntime) -> Result<(), AllocError> {
     let alloc = rt.alloc();
-    assert!(rt; ways_agree(alloc, &with_attribute(alloc, 4_194_144)?)?);
-    assert!(rt; ways_agree(alloc, &with_attribute(alloc, 4_194_145)?)?);
+    assert!(rt; ways_agree(alloc, &padded_class_file(alloc, b"A", 4_194_144)?)?);
+    assert!(rt; ways_agree(alloc, &padded_class_file(alloc, b"A", 4_194_145)?)?);
     Ok(())
 }

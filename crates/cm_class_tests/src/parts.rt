@@ -1,6 +1,7 @@
 //! The parts of classes, read from their bytes.
-use crate::samples::{CLASS_A, EACH_KIND};
+use crate::samples::EACH_KIND;
 use cm_class::{Attributes, Class, Constant, Member, Slot, read_shape};
+use cm_samples::CLASS_A;
 use std::process::Abort;
 use std::test::Fail;
 

@@ -1,8 +1,9 @@
 //! Classes that are prepared, and bytes that can't be.
 
-use crate::samples::{CLASS_A, join_parts, with_attribute};
+use crate::samples::join_parts;
 use cm_commands::{BadClass, PrepareFault, Prepared, Refusal, prepare};
 use cm_rules::{Broken, Rule, Spot};
+use cm_samples::{CLASS_A, padded_class_file};
 use std::alloc::{AllocError, Global};
 use std::test::Fail;
 
@@ -109,7 +110,7 @@ fn has_words(
     count: u32,
     expected: Result<u32, Refusal>,
 ) -> Result<bool, AllocError> {
-    let bytes = with_attribute(alloc, count)?;
+    let bytes = padded_class_file(alloc, b"A", count)?;
     Ok(words_of(alloc, &bytes) == expected)
 }
 

@@ -2,9 +2,9 @@
 use crate::record_samples::{
     ALL_TAGS, RECORD_A, RECORD_ALL_TAGS, bytes_of, record_bytes, record_of, record_of_class,
 };
-use crate::samples::{CLASS_A, with_attribute};
 use cm_class::{Class, read_shape};
 use cm_record::{Record, RecordRefusal, build};
+use cm_samples::{CLASS_A, padded_class_file};
 use std::alloc::{AllocError, Global};
 use std::test::Fail;
 
@@ -54,7 +54,7 @@ fn words_of(alloc: Global, class: &Class) -> Result<u32, RecordRefusal> {
 
 /// How many words the record of class A has, with an attribute of this many bytes.
 fn words_with(alloc: Global, count: u32) -> Result<Result<u32, RecordRefusal>, Fail> {
-    let bytes = with_attribute(alloc, count)?;
+    let bytes = padded_class_file(alloc, b"A", count)?;
     let class = read_shape(alloc, &bytes)?;
     Ok(words_of(alloc, &class))
 }

@@ -1,8 +1,9 @@
 //! Constants, fields, methods and code, found in records.
 use crate::record_samples::{ALL_TAGS, record_bytes, record_of};
-use crate::samples::{CLASS_A, join_parts, with_byte};
+use crate::samples::{join_parts, with_byte};
 use cm_class::Constant;
 use cm_record::{Code, Member, Record, Utf8Place};
+use cm_samples::CLASS_A;
 use std::alloc::Global;
 use std::cmp::Ordering;
 use std::process::Abort;

@@ -1,8 +1,8 @@
 //! Replies to commands and requests, letter by letter.
 
-use crate::samples::CLASS_A;
 use cm_commands::{BadClass, Refusal, prepare};
 use cm_rules::{Broken, Rule, Spot};
+use cm_samples::CLASS_A;
 use cm_tool::{Reply, ReplyKind};
 use std::alloc::AllocError;
 use std::process::Abort;

@@ -1,12 +1,6 @@
 //! Class files, byte by byte.
+use cm_samples::CLASS_A;
 use std::alloc::{AllocError, Global};
-
-/// Class A: a public class of the name A, with a super class, and nothing else.
-pub const CLASS_A: [u8; 53] = [
-    0xca, 0xfe, 0xba, 0xbe, 0, 0, 0, 0x34, 0, 5, 7, 0, 2, 1, 0, 1, 0x41, 7, 0, 4, 1, 0, 0x10, 0x6a,
-    0x61, 0x76, 0x61, 0x2f, 0x6c, 0x61, 0x6e, 0x67, 0x2f, 0x4f, 0x62, 0x6a, 0x65, 0x63, 0x74, 0,
-    0x21, 0, 1, 0, 3, 0, 0, 0, 0, 0, 0, 0, 0,
-];
 
 /// A class file with each kind of part: the heading, and one constant of each kind, with two slots
 /// for each Long and Double; an interface, a field with an attribute of two bytes, a method, and an
@@ -35,20 +29,4 @@ pub fn join_parts(alloc: Global, parts: &[&[u8]]) -> Result<Vec<u8>, AllocError>
         bytes.extend_from_slice(part)?;
     }
     Ok(bytes)
-}
-
-/// Class A with one attribute of this many bytes 00: a fifth slot `X`, and its name.
-pub fn with_attribute(alloc: Global, count: u32) -> Result<Vec<u8>, AllocError> {
-    let zeros = Vec::from_elem(alloc, 0u8, count as usize)?;
-    let parts: [&[u8]; 8] = [
-        &CLASS_A[..9],
-        &[6],
-        &CLASS_A[10..39],
-        &[1, 0, 1, 0x58],
-        &CLASS_A[39..51],
-        &[0, 1, 0, 5],
-        &count.to_be_bytes(),
-        &zeros,
-    ];
-    join_parts(alloc, &parts)
 }
