@@ -2,7 +2,6 @@
 
 use cm_disk::{Disk, SimDisk};
 use cm_pool::Geometry;
-use cm_recover::format;
 use cm_tool::{ApplyFault, Outcome, apply_script};
 use std::alloc::Global;
 use std::test::*;
@@ -15,11 +14,7 @@ pub fn new_disk(alloc: Global) -> Result<SimDisk, Fail> {
 /// The same with this many slots in each half.
 pub fn new_disk_of(alloc: Global, slots: u32) -> Result<SimDisk, Fail> {
     let geometry = Geometry::new(8, 64, slots).ok_or("a geometry")?;
-    let mut disk = SimDisk::new(alloc);
-    if format(alloc, &mut disk, geometry).is_err() {
-        return Err("a new cache".into());
-    }
-    Ok(disk)
+    Ok(cm_samples::new_disk(alloc, geometry)?)
 }
 
 /// The replies to a script on a disk, its result, and the disk.

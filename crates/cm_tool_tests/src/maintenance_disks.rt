@@ -3,8 +3,7 @@
 use crate::disks::replies;
 use cm_disk::{DeviceFault, Disk, SimDisk};
 use cm_maintenance::{NotReported, Status, check_to, list_to, trim_to};
-use cm_pool::Geometry;
-use cm_recover::format;
+use cm_samples::{new_disk, small_geometry};
 use std::alloc::Global;
 use std::io::Write;
 use std::test::*;
@@ -14,16 +13,6 @@ const CLASS: (&[u8], &[u8]) = (
     b"cafebabe0000003400050700020100",
     b"0700040100106a6176612f6c616e672f4f626a6563740021000100030000000000000000",
 );
-
-/// A disk of a small region that holds the empty cache.
-pub fn empty_cache(alloc: Global) -> Result<SimDisk, Fail> {
-    let geometry = Geometry::new(3, 2, 256).ok_or("within the limits")?;
-    let mut disk = SimDisk::new(alloc);
-    if format(alloc, &mut disk, geometry).is_err() {
-        return Err("a new cache".into());
-    }
-    Ok(disk)
-}
 
 /// A script in which `<` and `>` stand for what surrounds the length and the name of a class.
 fn expand(alloc: Global, script: &[u8]) -> Result<Vec<u8>, Fail> {
@@ -50,7 +39,7 @@ fn run_script(alloc: Global, script: &[u8], disk: SimDisk) -> Result<SimDisk, Fa
 /// A disk that holds the cache after this script.
 pub fn cache_after(alloc: Global, script: &[u8]) -> Result<SimDisk, Fail> {
     let script = expand(alloc, script)?;
-    run_script(alloc, &script, empty_cache(alloc)?)
+    run_script(alloc, &script, new_disk(alloc, small_geometry())?)
 }
 
 fn change(disk: &mut SimDisk, at: u64, byte: u8) -> Result<(), DeviceFault> {
@@ -62,7 +51,7 @@ fn change(disk: &mut SimDisk, at: u64, byte: u8) -> Result<(), DeviceFault> {
 
 /// A disk with the empty cache, except for one byte.
 pub fn changed_cache(alloc: Global, at: u64, byte: u8) -> Result<SimDisk, Fail> {
-    let mut disk = empty_cache(alloc)?;
+    let mut disk = new_disk(alloc, small_geometry())?;
     change(&mut disk, at, byte)?;
     Ok(disk)
 }
@@ -76,7 +65,7 @@ fn shorten(disk: &mut SimDisk, len: u64) -> Result<(), DeviceFault> {
 
 /// A disk with the beginning of the empty cache.
 pub fn shortened_cache(alloc: Global, len: u64) -> Result<SimDisk, Fail> {
-    let mut disk = empty_cache(alloc)?;
+    let mut disk = new_disk(alloc, small_geometry())?;
     shorten(&mut disk, len)?;
     Ok(disk)
 }

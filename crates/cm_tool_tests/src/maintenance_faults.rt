@@ -1,10 +1,9 @@
 //! Reports on files that aren't opened.
 
-use crate::maintenance_disks::{
-    Verb, cache_after, changed_cache, empty_cache, shortened_cache, status_of,
-};
+use crate::maintenance_disks::{Verb, cache_after, changed_cache, shortened_cache, status_of};
 use cm_disk::{FuseDisk, SimDisk};
 use cm_maintenance::Status;
+use cm_samples::{new_disk, small_geometry};
 use std::alloc::Global;
 use std::test::*;
 
@@ -102,7 +101,7 @@ fn check_twice(alloc: Global, disk: FuseDisk) -> Result<[Status; 2], Fail> {
 
 #[test]
 fn a_disk_that_failed_is_given_back(rt: HostRuntime) -> Result<(), Fail> {
-    let fuse = FuseDisk::new(empty_cache(rt.alloc())?, 0, 0);
+    let fuse = FuseDisk::new(new_disk(rt.alloc(), small_geometry())?, 0, 0);
     let statuses = check_twice(rt.alloc(), fuse)?;
     assert_eq!(rt; statuses, [Status::Failed, Status::Done]);
     Ok(())

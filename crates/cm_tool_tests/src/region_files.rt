@@ -1,6 +1,7 @@
 //! Files that are opened with as much of them in memory as their caches need.
 
 use crate::disks::replies;
+use crate::scripts::expand;
 use cm_disk::{Disk, WordRange};
 use cm_file_disk::FileDisk;
 use cm_pool::Geometry;
@@ -11,14 +12,8 @@ use std::alloc::Global;
 use std::fs;
 use std::test::*;
 
-/// Two loaders with class A, of 53 bytes and 16 words, of which the first is unloaded.
-const SCRIPT: &[u8] = b"loader a\n\
-    define a cafebabe0000003400050700020100014107000401\
-    00106a6176612f6c616e672f4f626a6563740021000100030000000000000000\n\
-    loader b\n\
-    define b cafebabe0000003400050700020100014107000401\
-    00106a6176612f6c616e672f4f626a6563740021000100030000000000000000\n\
-    unload a\n";
+/// Two loaders with class A, of 16 words, of which the first is unloaded.
+const SCRIPT: &[u8] = b"loader a\ndefine a @\nloader b\ndefine b @\nunload a\n";
 
 /// The halves of a file with 256 slots in each end here, and the first record begins.
 const ROOTS_AT: u64 = 36_864;
@@ -32,7 +27,8 @@ fn make_file(rt: &HostRuntime, path: &str) -> Result<(), Fail> {
         return Err("a new cache".into());
     }
     drop(disk);
-    let (told, _outcome, _disk) = replies(rt.alloc(), SCRIPT, cm_region_file::open(rt, path)?);
+    let script = expand(rt.alloc(), SCRIPT)?;
+    let (told, _outcome, _disk) = replies(rt.alloc(), &script, cm_region_file::open(rt, path)?);
     if told.as_slice() != b"ok 1\nok 2 A\nok 3\nok 4 A\nok 5\n".as_slice() {
         return Err("the replies to the script".into());
     }

@@ -2,15 +2,12 @@
 
 use crate::disks::{has_one_loader, new_disk, new_disk_of, replies};
 use cm_disk::{Disk, FuseDisk, SimDisk};
+use cm_samples::CLASS_A_TEXT;
 use cm_tool::{ApplyFault, Outcome, apply_script};
 use cm_verdict::{FileFault, OpenFault};
 use std::alloc::Global;
 use std::io::BufReader;
 use std::test::*;
-
-/// Class A: 53 bytes, named `A`, of `java/lang/Object`.
-pub const CLASS_A: &[u8] = b"cafebabe0000003400050700020100014107000401\
-      00106a6176612f6c616e672f4f626a6563740021000100030000000000000000";
 
 const FINE: Outcome = Outcome {
     refused: false,
@@ -28,11 +25,11 @@ const UNSURE: Outcome = Outcome {
 };
 
 /// A script in which `@` stands for class A.
-fn expand(alloc: Global, script: &[u8]) -> Result<Vec<u8>, Fail> {
+pub fn expand(alloc: Global, script: &[u8]) -> Result<Vec<u8>, Fail> {
     let mut text = Vec::new(alloc);
     for byte in script {
         if *byte == b'@' {
-            text.extend_from_slice(CLASS_A)?;
+            text.extend_from_slice(CLASS_A_TEXT)?;
         } else {
             text.push(*byte)?;
         }

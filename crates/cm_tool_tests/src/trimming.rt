@@ -2,6 +2,7 @@
 
 use crate::disks::{new_disk, replies};
 use crate::maintenance_disks::{Verb, cache_after, status_of, tell, tell_to_end};
+use crate::scripts::expand;
 use cm_disk::{Disk, FuseDisk, SimDisk};
 use cm_maintenance::Status;
 use std::alloc::Global;
@@ -46,10 +47,6 @@ fn a_trim_tells_how_many_roots_are_left(rt: HostRuntime) -> Result<(), Fail> {
     Ok(())
 }
 
-/// The class `A` of `java/lang/Object`.
-const DEFINE: &[u8] = b"loader app\ndefine app cafebabe0000003400050700020100014107000401\
-    00106a6176612f6c616e672f4f626a6563740021000100030000000000000000\n";
-
 /// How long a disk is after a script, and the disk.
 fn length_after(alloc: Global, script: &[u8], disk: SimDisk) -> Result<(u64, SimDisk), Fail> {
     let (_replies, _outcome, mut disk) = replies(alloc, script, disk);
@@ -63,7 +60,8 @@ fn length_after(alloc: Global, script: &[u8], disk: SimDisk) -> Result<(u64, Sim
 /// unloaded; and the result of a trim then.
 fn usual_lengths(alloc: Global) -> Result<([u64; 3], (bool, u64, bool)), Fail> {
     let (new, disk) = length_after(alloc, b"", new_disk(alloc)?)?;
-    let (defined, disk) = length_after(alloc, DEFINE, disk)?;
+    let script = expand(alloc, b"loader app\ndefine app @\n")?;
+    let (defined, disk) = length_after(alloc, &script, disk)?;
     let (unloaded, disk) = length_after(alloc, b"unload app\n", disk)?;
     let trimmed = trim_twice(alloc, disk, b"roots 0\n")?;
     Ok(([new, defined, unloaded], trimmed))

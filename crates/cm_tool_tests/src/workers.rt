@@ -3,7 +3,7 @@
 ghost use Rattle.std.specs.Prelude.{◌<◌};
 
 use crate::disks::{are_replies, new_disk, replies};
-use crate::scripts::CLASS_A;
+use cm_samples::CLASS_A_TEXT;
 use cm_tool::apply_threads;
 use std::alloc::Global;
 use std::test::*;
@@ -17,7 +17,12 @@ const TOO_MANY: usize = 1_000;
 
 /// Appends the two lines that define class A: as it is, and with bytes after it.
 fn push_lines(script: &mut Vec<u8>) -> Result<(), Fail> {
-    for part in [b"define a ".as_slice(), CLASS_A, b"\ndefine a ", CLASS_A] {
+    for part in [
+        b"define a ".as_slice(),
+        CLASS_A_TEXT,
+        b"\ndefine a ",
+        CLASS_A_TEXT,
+    ] {
         script.extend_from_slice(part)?;
     }
     for _ in 0..TOO_MANY {
