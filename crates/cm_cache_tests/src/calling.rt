@@ -1,10 +1,10 @@
 //! One thread's calls of a running cache, as tables of calls and results.
 
 use crate::fused::calls_to_open;
-use crate::holding::class;
 use crate::running::formatted;
 use cm_disk::FuseDisk;
 use cm_library::{Cache, Counts, Disk, Finished, Names, Naming, Pass, Refusal, Work, with_cache};
+use cm_samples::class;
 use std::alloc::Global;
 use std::sync::Wait;
 use std::test::*;
@@ -46,7 +46,7 @@ fn define<K: Naming, R: Wait>(
     pass: &mut Pass<K>,
     loader: u8,
 ) -> Result<u64, Refusal> {
-    cache.define(rt, pass, &[loader], class(alloc, b'A')?)
+    cache.define(rt, pass, &[loader], class(alloc, b"A")?)
 }
 
 fn make_call<K: Naming, R: Wait>(

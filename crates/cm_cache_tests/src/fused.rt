@@ -1,6 +1,5 @@
 //! Threads that define classes while the device fails.
 
-use crate::holding::class;
 use crate::running::{formatted, opened};
 use cm_commands::Command;
 use cm_commit::Committer;
@@ -8,6 +7,7 @@ use cm_disk::{FuseDisk, SimDisk};
 use cm_front::Front;
 use cm_library::{Cache, Counts, Finished, Naming, Pass, Prepared, Refusal, Work, with_threads};
 use cm_recover::{NotOpened, open};
+use cm_samples::class;
 use std::alloc::Global;
 use std::sync::Wait;
 use std::test::*;
@@ -119,7 +119,7 @@ fn three_threads_meet_a_device_that_fails(rt: HostRuntime) -> Result<(), Fail> {
     let fuse = FuseDisk::new(disk, calls.saturating_add(CALLS), 0);
     let mut definers = Vec::new(alloc);
     for name in &CLASSES {
-        let class = class(alloc, *name)?;
+        let class = class(alloc, &[*name])?;
         definers.push(Definer { class })?;
     }
     let Finished {

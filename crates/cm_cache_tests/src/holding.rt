@@ -2,19 +2,12 @@
 
 use crate::fused::with_loader;
 use crate::held_disk::{Gate, HeldDisk, Hold};
-use cm_library::{
-    Cache, Counts, Finished, Naming, Pass, Prepared, Refusal, Work, prepare, with_threads,
-};
-use std::alloc::{AllocError, Global};
+use cm_library::{Cache, Counts, Finished, Naming, Pass, Prepared, Work, with_threads};
+use cm_samples::class;
+use std::alloc::Global;
 use std::sync::Wait;
 use std::test::*;
 use std::thread::yield_now;
-
-/// Class `A` without its name's letter: what precedes it, and what follows it.
-const BEFORE_NAME: &[u8] = b"\xca\xfe\xba\xbe\0\0\0\x34\0\x05\x07\0\x02\x01\0\x01";
-
-const BEHIND_NAME: &[u8] =
-    b"\x07\0\x04\x01\0\x10java/lang/Object\0\x21\0\x01\0\x03\0\0\0\0\0\0\0\0";
 
 /// For how many turns a thread waits at most.
 const TURNS: u64 = 20_000_000;
@@ -42,20 +35,6 @@ enum Job {
 struct Gated<'a> {
     job: Job,
     gate: &'a Gate,
-}
-
-fn class_bytes(alloc: Global, name: u8) -> Result<Vec<u8>, AllocError> {
-    let mut bytes = Vec::new(alloc);
-    bytes.extend_from_slice(BEFORE_NAME)?;
-    bytes.push(name)?;
-    bytes.extend_from_slice(BEHIND_NAME)?;
-    Ok(bytes)
-}
-
-/// The class of a name of one letter.
-pub fn class(alloc: Global, name: u8) -> Result<Prepared, Refusal> {
-    let bytes = class_bytes(alloc, name)?;
-    Ok(prepare(alloc, &bytes)?)
 }
 
 fn await_hold(gate: &Gate) -> bool {
@@ -115,9 +94,9 @@ fn a_held_sync_holds_up_no_other(rt: HostRuntime) -> Result<(), Fail> {
     let held = HeldDisk::new(disk, gate.share()?, HELD);
     let mut works = Vec::new(alloc);
     for job in [
-        Job::Define(class(alloc, b'A')?),
-        Job::DefineHeld(class(alloc, b'B')?),
-        Job::DefineHeld(class(alloc, b'C')?),
+        Job::Define(class(alloc, b"A")?),
+        Job::DefineHeld(class(alloc, b"B")?),
+        Job::DefineHeld(class(alloc, b"C")?),
         Job::Watch,
     ] {
         works.push(Gated { job, gate: &gate })?;

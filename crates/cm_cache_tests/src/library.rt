@@ -1,11 +1,11 @@
 //! Caches that aren't opened, and caches in files.
 
-use crate::holding::class;
 use crate::running::formatted;
 use cm_library::{
     Cache, Counts, CreateError, FileFault, Finished, Geometry, Naming, NotRun, OpenError,
     OpenFault, Pass, SimDisk, Work, create_file, format, open_file, with_cache,
 };
+use cm_samples::class;
 use std::alloc::Global;
 use std::fs;
 use std::sync::Wait;
@@ -34,7 +34,7 @@ impl<R: Wait> Work<R> for Class {
         let was_there = cache.find(rt, &[loader], b"A")?.is_some();
         if !was_there {
             let _first = cache.add_loader(rt, pass, &[loader])?;
-            let _second = cache.define(rt, pass, &[loader], class(alloc, b'A')?)?;
+            let _second = cache.define(rt, pass, &[loader], class(alloc, b"A")?)?;
         }
         let found = cache.find(rt, &[loader], b"A")?.ok_or("not found")?;
         Ok((was_there, found.words()))

@@ -4,18 +4,15 @@ use cm_commit::Committer;
 use cm_disk::{Disk, SimDisk};
 use cm_front::Front;
 use cm_pool::Geometry;
-use cm_recover::{NotOpened, format, open};
+use cm_recover::{NotOpened, open};
+use cm_samples::new_disk;
 use std::alloc::Global;
 use std::test::Fail;
 
 /// A disk in memory with an empty cache.
 pub fn formatted(alloc: Global) -> Result<SimDisk, Fail> {
     let geometry = Geometry::new(8, 64, 4_096).ok_or("sizes")?;
-    let mut disk = SimDisk::new(alloc);
-    if format(alloc, &mut disk, geometry).is_err() {
-        return Err("not formatted".into());
-    }
-    Ok(disk)
+    Ok(new_disk(alloc, geometry)?)
 }
 
 /// What a disk holds.
