@@ -1,10 +1,10 @@
 //! Checkpoints: if the half of the journal that counts has no room for a group, the live rows go
 //! to the other half before it.
 
-use crate::committers::{new_file, open_committer};
+use crate::committers::open_committer;
 use crate::events::{Exchange, Happens, first_other, first_other_and_bytes};
 use crate::fronts::{add_loader, unload};
-use crate::small_files::{HALF_1_AT, Head, bytes_of, disk_of, file_of_loaders, head_at, heads};
+use crate::small_files::{HALF_1_AT, Head, file_of_loaders, head_at, heads};
 use crate::stores::commit;
 use crate::turns::{Course, Run, START, Stop, name, push_opening, push_runs, push_stop};
 use cm_commands::Refusal;
@@ -12,6 +12,7 @@ use cm_commit::Committer;
 use cm_disk::SimDisk;
 use cm_front::Front;
 use cm_maintenance::list_accepted;
+use cm_samples::{bytes_of, disk_of, new_disk, small_geometry};
 use std::alloc::Global;
 use std::test::*;
 
@@ -52,7 +53,7 @@ fn fill_and_close(front: &mut Front, committer: Committer<SimDisk>) -> (Filled, 
 }
 
 fn fill_new(alloc: Global) -> Result<(Filled, SimDisk), Fail> {
-    match open_committer(alloc, new_file(alloc)?) {
+    match open_committer(alloc, new_disk(alloc, small_geometry())?) {
         Ok((mut front, committer)) => Ok(fill_and_close(&mut front, committer)),
         Err(fail) => Err(fail),
     }
@@ -186,7 +187,7 @@ fn use_and_close(front: &mut Front, committer: Committer<SimDisk>) -> (Calls, Si
 
 /// The calls, how many loaders are listed then, and the disk.
 fn use_new(alloc: Global) -> Result<(Calls, usize, SimDisk), Fail> {
-    match open_committer(alloc, new_file(alloc)?) {
+    match open_committer(alloc, new_disk(alloc, small_geometry())?) {
         Ok((mut front, committer)) => {
             let (calls, disk) = use_and_close(&mut front, committer);
             Ok((calls, count_loaders(alloc, &front)?, disk))

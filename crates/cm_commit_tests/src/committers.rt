@@ -6,20 +6,10 @@ use cm_commit::{Committer, Progress};
 use cm_disk::SimDisk;
 use cm_front::Front;
 use cm_group::Group;
-use cm_pool::Geometry;
-use cm_recover::{NotOpened, format, open};
+use cm_recover::{NotOpened, open};
+use cm_samples::{new_disk, small_geometry};
 use std::alloc::Global;
 use std::test::Fail;
-
-/// A file of two roots of 1,024 words and of 256 slots in each half, with nothing in it.
-pub fn new_file(alloc: Global) -> Result<SimDisk, Fail> {
-    let geometry = Geometry::new(3, 2, 256).ok_or("within the limits")?;
-    let mut disk = SimDisk::new(alloc);
-    if format(alloc, &mut disk, geometry).is_err() {
-        return Err("the disk doesn't fail".into());
-    }
-    Ok(disk)
-}
 
 /// The cache of a file.
 pub fn open_committer(alloc: Global, disk: SimDisk) -> Result<(Front, Committer<SimDisk>), Fail> {
@@ -36,7 +26,7 @@ pub fn open_committer(alloc: Global, disk: SimDisk) -> Result<(Front, Committer<
 
 /// A committer of a new file.
 pub fn new_committer(alloc: Global) -> Result<Committer<SimDisk>, Fail> {
-    match open_committer(alloc, new_file(alloc)?) {
+    match open_committer(alloc, new_disk(alloc, small_geometry())?) {
         Ok((_front, committer)) => Ok(committer),
         Err(fail) => Err(fail),
     }

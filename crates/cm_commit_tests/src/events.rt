@@ -1,11 +1,10 @@
 //! Events one after another, with the reply to each.
 
-use crate::classes::{CLASS_A, class};
+use crate::classes::class;
 use crate::fronts;
-use crate::small_files::bytes_of;
 use cm_commands::{Command, Prepared, Refusal};
 use cm_disk::{Choice, SimDisk};
-use cm_pool::Geometry;
+use cm_samples::{CLASS_A_TEXT, bytes_of, small_geometry};
 use cm_world::{Event, Reply, World};
 use std::alloc::Global;
 use std::test::*;
@@ -75,7 +74,7 @@ struct Classes {
 }
 
 fn make_classes(alloc: Global) -> Result<Classes, Fail> {
-    let a = class(alloc, CLASS_A)?;
+    let a = class(alloc, CLASS_A_TEXT)?;
     let b = fronts::class(alloc, b'B', 864)?;
     Ok(Classes { a, b })
 }
@@ -151,8 +150,7 @@ fn events(alloc: Global, list: &[Exchange]) -> Result<Vec<Event<'static>>, Fail>
 // Runs events over a file of two roots of 1,024 words and of 256 slots in each half: the replies,
 // and the disk after them.
 fn run(alloc: Global, events: Vec<Event<'static>>) -> Result<(Vec<Reply>, SimDisk), Fail> {
-    let geometry = Geometry::new(3, 2, 256).ok_or("within the limits")?;
-    let Ok((replies, world)) = World::run(alloc, geometry, events) else {
+    let Ok((replies, world)) = World::run(alloc, small_geometry(), events) else {
         return Err("no file is damaged".into());
     };
     Ok((replies, world.into_disk()))

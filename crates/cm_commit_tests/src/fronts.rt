@@ -2,19 +2,13 @@
 //! allocation failed, a call is made once more: the cache is as it was, so the result is the one
 //! that was due.
 
-use crate::classes::class_of_parts;
+use crate::classes::class_of;
 use cm_commands::{Command, Names, Prepared, Refusal};
 use cm_front::Front;
 use cm_pool::Geometry;
+use cm_samples::padded_class_file;
 use std::alloc::{AllocError, Global};
 use std::test::Fail;
-
-/// A class with a name of one letter and one attribute named `X`: what precedes the letter, and
-/// what is between it and the attribute's length.
-const BEFORE_NAME: &[u8] = b"\xca\xfe\xba\xbe\0\0\0\x34\0\x06\x07\0\x02\x01\0\x01";
-
-const BEHIND_NAME: &[u8] = b"\x07\0\x04\x01\0\x10java/lang/Object\x01\0\x01X\
-    \0\x21\0\x01\0\x03\0\0\0\0\0\0\0\x01\0\x05";
 
 /// A cache of these sizes with nothing in it.
 pub fn empty_of(alloc: Global, geometry: Geometry) -> Result<Front, Fail> {
@@ -33,9 +27,11 @@ pub fn empty(alloc: Global, top: u32, roots: u32) -> Result<Front, Fail> {
 /// The class of this name with this many bytes in its attribute: its record has 20 words and one
 /// for each eight bytes.
 pub fn class(alloc: Global, name: u8, count: u32) -> Result<Prepared, Fail> {
-    let long = count.to_be_bytes();
-    let parts: [&[u8]; 4] = [BEFORE_NAME, &[name], BEHIND_NAME, &long];
-    class_of_parts(alloc, &parts, count as usize)
+    let bytes = match padded_class_file(alloc, &[name], count) {
+        Ok(bytes) => bytes,
+        Err(_) => padded_class_file(alloc, &[name], count)?,
+    };
+    class_of(alloc, &bytes)
 }
 
 pub fn add_loader(front: &mut Front, name: &[u8]) -> Result<u64, Refusal> {

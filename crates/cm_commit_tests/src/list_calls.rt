@@ -1,11 +1,10 @@
 //! Commands as values, so that a test is a table of commands and what is then listed, and accepted
 //! caches after them.
 
-use crate::classes::class_of_parts;
 use crate::fronts::{add_loader, define, empty_of, tighten, unload};
-use cm_commands::Prepared;
+use cm_commands::{PrepareFault, Prepared};
 use cm_front::Front;
-use cm_pool::Geometry;
+use cm_samples::{class, small_geometry};
 use std::alloc::Global;
 use std::test::Fail;
 
@@ -18,24 +17,18 @@ pub enum Call {
     Tighten(&'static [u8]),
 }
 
-/// A class whose record has 16 words if its name has up to eight bytes: what precedes the name's
-/// length, and what follows the name.
-const BEFORE_NAME: &[u8] = b"\xca\xfe\xba\xbe\0\0\0\x34\0\x05\x07\0\x02\x01";
-
-const BEHIND_NAME: &[u8] = b"\x07\0\x04\x01\0\x10java/lang/Object\
-    \0\x21\0\x01\0\x03\0\0\0\0\0\0\0\0";
-
-/// The class of this name.
-fn class(alloc: Global, name: &[u8]) -> Result<Prepared, Fail> {
-    let long = u16::try_from(name.len()).ok().ok_or("a short name")?;
-    let parts: [&[u8]; 4] = [BEFORE_NAME, &long.to_be_bytes(), name, BEHIND_NAME];
-    class_of_parts(alloc, &parts, 0)
+/// The class of this name. It is made once more if an allocation failed.
+fn class_again(alloc: Global, name: &[u8]) -> Result<Prepared, PrepareFault> {
+    match class(alloc, name) {
+        Err(PrepareFault::NoMemory) => class(alloc, name),
+        answer => answer,
+    }
 }
 
 fn accept(alloc: Global, front: &mut Front, call: Call) -> Result<bool, Fail> {
     let answer = match call {
         Call::Loader(loader) => add_loader(front, loader),
-        Call::Define(loader, name) => define(front, loader, &class(alloc, name)?),
+        Call::Define(loader, name) => define(front, loader, &class_again(alloc, name)?),
         Call::Unload(loader) => unload(front, loader),
         Call::Tighten(loader) => tighten(front, loader),
     };
@@ -54,6 +47,5 @@ pub fn accept_all(alloc: Global, front: &mut Front, calls: &[Call]) -> Result<()
 
 /// A cache of two roots of 1,024 words with nothing in it.
 pub fn small_front(alloc: Global) -> Result<Front, Fail> {
-    let geometry = Geometry::new(3, 2, 256).ok_or("sizes")?;
-    empty_of(alloc, geometry)
+    empty_of(alloc, small_geometry())
 }

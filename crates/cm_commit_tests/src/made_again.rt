@@ -6,6 +6,7 @@ use cm_disk::{Disk, SimDisk};
 use cm_front::Front;
 use cm_pool::Geometry;
 use cm_recover::{FormatFault, NotOpened, format, open};
+use cm_samples::small_geometry;
 use cm_verdict::OpenFault;
 use std::alloc::Global;
 use std::test::Fail;
@@ -72,8 +73,7 @@ fn add_to_file(alloc: Global, disk: SimDisk) -> Result<Option<(u64, u64)>, Fail>
 
 #[test]
 fn a_file_is_made_and_opened_after_a_refusal(rt: HostRuntime) -> Result<(), Fail> {
-    let geometry = Geometry::new(3, 2, 256).ok_or("within the limits")?;
-    let disk = make(rt.alloc(), geometry)?;
+    let disk = make(rt.alloc(), small_geometry())?;
     assert_eq!(rt; add_to_file(rt.alloc(), disk)?, Some((0, 1)));
     Ok(())
 }

@@ -2,11 +2,12 @@
 //! allocation failed changes nothing that is found, and when it is repeated it takes the number
 //! that was due.
 
-use crate::classes::{CLASS_A, class};
+use crate::classes::class;
 use crate::fronts;
 use crate::fronts::{empty, words};
 use cm_commands::{Command, Prepared, Refusal};
 use cm_front::Front;
+use cm_samples::CLASS_A_TEXT;
 use std::alloc::Global;
 use std::test::Fail;
 
@@ -106,7 +107,7 @@ const FOUND: [Step; 2] = [
 
 #[test]
 fn a_class_is_found_after_a_refusal(rt: HostRuntime) -> Result<(), Fail> {
-    let classes = [class(rt.alloc(), CLASS_A)?];
+    let classes = [class(rt.alloc(), CLASS_A_TEXT)?];
     assert_eq!(rt; first_other(rt.alloc(), b"app", &classes, &FOUND)?, None);
     Ok(())
 }
@@ -122,7 +123,7 @@ const COMES_AGAIN: [Step; 5] = [
 #[test]
 fn a_loader_comes_again_after_a_refusal(rt: HostRuntime) -> Result<(), Fail> {
     let alloc = rt.alloc();
-    let classes = [class(alloc, CLASS_A)?, fronts::class(alloc, b'A', 0)?];
+    let classes = [class(alloc, CLASS_A_TEXT)?, fronts::class(alloc, b'A', 0)?];
     assert_eq!(rt; first_other(alloc, b"a", &classes, &COMES_AGAIN)?, None);
     Ok(())
 }

@@ -1,9 +1,10 @@
 //! A class that two loaders share.
 
-use crate::classes::{CLASS_A, class};
+use crate::classes::class;
 use crate::fronts::{add_loader, empty};
 use cm_commands::{Command, Prepared, Refusal};
 use cm_front::Front;
+use cm_samples::CLASS_A_TEXT;
 use std::alloc::Global;
 use std::test::Fail;
 
@@ -39,7 +40,7 @@ fn define_and_find(alloc: Global, class: Prepared) -> Result<Option<u32>, Fail> 
 
 #[test]
 fn a_class_that_two_loaders_share_has_the_same_words(rt: HostRuntime) -> Result<(), Fail> {
-    let class = class(rt.alloc(), CLASS_A)?;
+    let class = class(rt.alloc(), CLASS_A_TEXT)?;
     assert_eq!(rt; define_and_find(rt.alloc(), class)?, Some(16));
     Ok(())
 }

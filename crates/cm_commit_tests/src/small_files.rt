@@ -1,11 +1,10 @@
 //! Files of 256 slots in each half, by their bytes.
 
 use crate::turns::name;
-use cm_disk::{Disk, SimDisk};
 use cm_layout::{
     ENTRY_VERSION, GroupHead, HalfHead, LoaderRow, SUPERBLOCK_BYTES, SlotName, Superblock,
 };
-use cm_pool::Geometry;
+use cm_samples::small_geometry;
 use std::alloc::Global;
 use std::test::Fail;
 
@@ -14,14 +13,6 @@ pub const HALF_1_AT: usize = 20_480;
 
 /// How long a file without roots is.
 const LONG: usize = 36_864;
-
-/// All bytes of a disk.
-pub fn bytes_of(alloc: Global, disk: &mut SimDisk) -> Result<Vec<u8>, Fail> {
-    let long = disk.len()?;
-    let mut bytes = Vec::from_elem(alloc, 0, long as usize)?;
-    disk.read(0, &mut bytes)?;
-    Ok(bytes)
-}
 
 /// What the head of a half says: its gate's byte, how many slots live rows take, its epoch and its
 /// base.
@@ -79,18 +70,8 @@ fn push_half(bytes: &mut Vec<u8>, loaders: usize) -> Result<(), Fail> {
 /// The bytes of a file with this many loaders in its half 0, each in a group of its own. Half 1 was
 /// never used.
 pub fn file_of_loaders(alloc: Global, loaders: usize) -> Result<Vec<u8>, Fail> {
-    let geometry = Geometry::new(3, 2, 256).ok_or("within the limits")?;
+    let geometry = small_geometry();
     let mut bytes = Superblock { geometry }.encode(alloc)?;
     push_half(&mut bytes, loaders)?;
     Ok(bytes)
-}
-
-/// A disk of these bytes, which are durable.
-pub fn disk_of(alloc: Global, bytes: &[u8]) -> Result<SimDisk, Fail> {
-    let mut disk = SimDisk::new(alloc);
-    if bytes.len() < 100_000 {
-        disk.write_at(0, bytes)?;
-    }
-    disk.sync()?;
-    Ok(disk)
 }

@@ -3,13 +3,14 @@
 
 use crate::calls::{Answer, Call, make};
 use crate::commands::classes;
-use crate::committers::{new_committer, new_file, offer, open_committer, store};
+use crate::committers::{new_committer, offer, open_committer, store};
 use crate::groups::{Sample, WORDS};
 use cm_commands::Prepared;
 use cm_commit::Committer;
 use cm_disk::{Choice, SimDisk};
 use cm_front::Front;
 use cm_group::Receipt;
+use cm_samples::{new_disk, small_geometry};
 use std::alloc::Global;
 use std::test::*;
 
@@ -115,7 +116,7 @@ fn store_and_close(
 
 /// Which group has a wrong result on a new file, and the disk after them.
 fn store_groups(alloc: Global, classes: &[Prepared]) -> Result<(Option<usize>, SimDisk), Fail> {
-    match open_committer(alloc, new_file(alloc)?) {
+    match open_committer(alloc, new_disk(alloc, small_geometry())?) {
         Ok((mut front, committer)) => Ok(store_and_close(&mut front, committer, classes)),
         Err(fail) => Err(fail),
     }
