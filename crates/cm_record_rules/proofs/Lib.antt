@@ -7,8 +7,6 @@ mod Whole
 mod Iterators
 mod Counted
 mod Slots
-mod Searches
-mod KeptRules
 mod Filled
 mod FirstMembers
 mod MarkedMembers

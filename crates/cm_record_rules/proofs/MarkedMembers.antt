@@ -11,7 +11,7 @@ use Rattle.cm_class.specs.declared.class_file.Member.{Member}
 use Rattle.cm_class.specs.Names.{utf8}
 use Rattle.cm_duplicates.specs.Duplicates.{same_member, is_first}
 use Rattle.cm_record_rules.specs.Marked.{mark_of, member_mark}
-use Rattle.cm_record_rules.proofs.KeptRules.{left, right}
+use Rattle.cm_rules.proofs.{left, right}
 
 module _ (c : ClassFile) (m : Member) where
   -- the same members have the same mark

@@ -7,7 +7,7 @@ use Rattle.std.specs.List.{list_all}
 use Rattle.cm_descriptors.specs.Forms.{is_name_byte, less, greater, is_empty, is_unqualified_name}
 use Rattle.cm_descriptors.specs.Forms.{is_method_name}
 use Rattle.cm_record_rules.specs.Plain.{is_plain_byte, is_plain_name}
-use Rattle.cm_record_rules.proofs.KeptRules.{left, right, both}
+use Rattle.cm_rules.proofs.{left, right, both}
 
 -- what holds of all bytes holds of the first ones
 all_front : (p : ℕ → Bool) (n : ℕ) (xs : List ℕ) → list_all p xs ≡ true

@@ -29,7 +29,7 @@ use Rattle.cm_record_layout.specs.Packing.{run_words}
 use Rattle.cm_record_layout.specs.Layout.{utf8_runs, slot_run}
 use Rattle.cm_record_layout.proofs.{word_same, packed_len}
 use Rattle.cm_record_rules.specs.Plain.{is_character, count_characters, slot_text, texts}
-use Rattle.cm_record_rules.proofs.KeptRules.{left, right, both}
+use Rattle.cm_rules.proofs.{left, right, both}
 use Rattle.cm_record_rules.proofs.Filled.{length-word_bytes}
 use Rattle.cm_record_rules.proofs.RunBytes.{drop_fits, bytes_from_word}
 

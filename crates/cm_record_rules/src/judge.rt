@@ -17,7 +17,7 @@ use crate::twins::no_twins;
 use std::alloc::Global;
 
 /// Whether the class is found to keep all rules.
-#[tactic(auto, using(crate::proofs::KeptRules::no_fault))]
+#[tactic(auto, using(cm_rules::proofs::no_fault))]
 fn keeps_rules(alloc: Global, class: &LaidClass) -> bool
     ensures { result ≡ true → fault class.now ≡ None }
 {

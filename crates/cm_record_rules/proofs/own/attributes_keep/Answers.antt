@@ -1,7 +1,7 @@
 use Rattle.std.proofs.Common.{ap, length, sym, arith}
 use Rattle.cm_duplicates.specs.Duplicates.{first_failing}
 use Rattle.cm_rules.specs.Kept.{attribute_keeps}
-use Rattle.cm_record_rules.proofs.Searches.{passes_next, none_left}
+use Rattle.cm_rules.proofs.{passes_next, none_left}
 use Rattle.cm_record_rules.proofs.own.attributes_keep.Goals as goal
 
 pub loop-item-preserved : goal.loop-item-preserved

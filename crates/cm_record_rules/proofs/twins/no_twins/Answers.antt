@@ -3,7 +3,7 @@ use Rattle.std.proofs.Common.{drop-drop}
 use Rattle.std.specs.Prelude.{if◌then◌else◌, is_ok}
 use Rattle.cm_duplicates.specs.Duplicates.{first_failing, is_first}
 use Rattle.cm_record_rules.proofs.MarkedMembers.{marked_more}
-use Rattle.cm_record_rules.proofs.Searches.{passes_next, none_left}
+use Rattle.cm_rules.proofs.{passes_next, none_left}
 use Rattle.cm_record_rules.proofs.twins.no_twins.Goals as goal
 
 pub loop-member-preserved : goal.loop-member-preserved
