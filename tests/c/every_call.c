@@ -554,7 +554,9 @@ static void fails_for_threads(void)
     }
     for (int at = 0; at < THREADS; at++) {
         pthread_join(threads[at], NULL);
-        CHECK(shares[at].last == CMCORE_UNSURE || shares[at].last == CMCORE_BROKEN);
+        /* On a busy machine, one may be through with its letters before the device fails. */
+        CHECK(shares[at].last == CMCORE_UNSURE || shares[at].last == CMCORE_BROKEN ||
+              (shares[at].last == CMCORE_OK && shares[at].acknowledged == 'Z' - 'A' + 1));
         acknowledged += shares[at].acknowledged;
     }
     CHECK(acknowledged > 0 && acknowledged <= 64);
