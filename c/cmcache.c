@@ -23,7 +23,8 @@ struct cmcache {
     pthread_cond_t lanes[LANES]; /* the thread of command n waits at n % LANES */
     /* Guarded by the mutex: */
     cmcore_handle core;
-    uint64_t stored; /* the last number that is stored */
+    uint64_t stored;   /* the last number that is stored */
+    uint64_t accepted; /* the last number that a command has */
     bool closing;
     bool failed; /* the flusher has ended, since a call wasn't made: */
     int cause;   /* why, as errno says it */
@@ -88,6 +89,7 @@ static int32_t start(cmcache *cache)
     if (status != CMCORE_OK)
         return status;
     cache->stored = stats.stored;
+    cache->accepted = stats.stored;
     sigfillset(&all);
     pthread_sigmask(SIG_SETMASK, &all, &before);
     int fault = pthread_create(&cache->flusher, NULL, flush, cache);
@@ -166,15 +168,23 @@ static const uint8_t *bytes_of(const char *text)
     return (const uint8_t *)text;
 }
 
-/* With the mutex locked: the end of a command that the core accepted or refused. */
-static int32_t finish(cmcache *cache, int32_t status, uint64_t given, uint64_t *number)
+/* With the mutex locked: waits until a command that was accepted is stored, or can't be. */
+static int32_t wait_for(cmcache *cache, uint64_t number)
+{
+    while (cache->stored < number && !cache->failed)
+        pthread_cond_wait(&cache->lanes[number % LANES], &cache->mutex);
+    return cache->stored < number ? CMCORE_UNSURE : CMCORE_OK;
+}
+
+/* With the mutex locked: the end of a command that the core accepted or refused. Whoever waits for
+ * it returns once it is stored. */
+static int32_t finish(cmcache *cache, int32_t status, uint64_t given, uint64_t *number, bool waits)
 {
     if (status == CMCORE_OK) {
+        cache->accepted = given;
         pthread_cond_signal(&cache->work);
-        while (cache->stored < given && !cache->failed)
-            pthread_cond_wait(&cache->lanes[given % LANES], &cache->mutex);
-        if (cache->stored < given)
-            status = CMCORE_UNSURE;
+        if (waits)
+            status = wait_for(cache, given);
         *number = given;
     }
     pthread_mutex_unlock(&cache->mutex);
@@ -185,44 +195,99 @@ typedef int32_t acceptor(cmcore_handle *cache, const uint8_t *text, size_t len,
                          uint64_t *number);
 
 static int32_t run(cmcache *cache, acceptor *accept, const char *text, size_t len,
-                   uint64_t *number)
+                   uint64_t *number, bool waits)
 {
     uint64_t given = 0;
     pthread_mutex_lock(&cache->mutex);
     int32_t status = accept(&cache->core, bytes_of(text), len, &given);
-    return finish(cache, status, given, number);
+    return finish(cache, status, given, number, waits);
 }
 
-int32_t cmcache_add_loader(cmcache *cache, const char *loader, size_t loader_len,
-                           uint64_t *number)
-{
-    return run(cache, cmcore_add_loader, loader, loader_len, number);
-}
-
-int32_t cmcache_define(cmcache *cache, const char *loader, size_t loader_len,
-                       cmcache_prepared *prepared, uint64_t *number)
+static int32_t define(cmcache *cache, const char *loader, size_t loader_len,
+                      cmcache_prepared *prepared, uint64_t *number, bool waits)
 {
     uint64_t given = 0;
     pthread_mutex_lock(&cache->mutex);
     int32_t status = cmcore_define(&cache->core, bytes_of(loader), loader_len, &prepared->handle,
                                    &given);
-    return finish(cache, status, given, number);
+    return finish(cache, status, given, number, waits);
+}
+
+int32_t cmcache_add_loader(cmcache *cache, const char *loader, size_t loader_len,
+                           uint64_t *number)
+{
+    return run(cache, cmcore_add_loader, loader, loader_len, number, true);
+}
+
+int32_t cmcache_define(cmcache *cache, const char *loader, size_t loader_len,
+                       cmcache_prepared *prepared, uint64_t *number)
+{
+    return define(cache, loader, loader_len, prepared, number, true);
 }
 
 int32_t cmcache_unload(cmcache *cache, const char *loader, size_t loader_len, uint64_t *number)
 {
-    return run(cache, cmcore_unload, loader, loader_len, number);
+    return run(cache, cmcore_unload, loader, loader_len, number, true);
 }
 
 int32_t cmcache_unload_all(cmcache *cache, const char *loaders, size_t loaders_len,
                            uint64_t *number)
 {
-    return run(cache, cmcore_unload_all, loaders, loaders_len, number);
+    return run(cache, cmcore_unload_all, loaders, loaders_len, number, true);
 }
 
 int32_t cmcache_tighten(cmcache *cache, const char *loader, size_t loader_len, uint64_t *number)
 {
-    return run(cache, cmcore_tighten, loader, loader_len, number);
+    return run(cache, cmcore_tighten, loader, loader_len, number, true);
+}
+
+/* ---- commands that aren't waited for */
+
+int32_t cmcache_submit_add_loader(cmcache *cache, const char *loader, size_t loader_len,
+                                  uint64_t *number)
+{
+    return run(cache, cmcore_add_loader, loader, loader_len, number, false);
+}
+
+int32_t cmcache_submit_define(cmcache *cache, const char *loader, size_t loader_len,
+                              cmcache_prepared *prepared, uint64_t *number)
+{
+    return define(cache, loader, loader_len, prepared, number, false);
+}
+
+int32_t cmcache_submit_unload(cmcache *cache, const char *loader, size_t loader_len,
+                              uint64_t *number)
+{
+    return run(cache, cmcore_unload, loader, loader_len, number, false);
+}
+
+int32_t cmcache_submit_unload_all(cmcache *cache, const char *loaders, size_t loaders_len,
+                                  uint64_t *number)
+{
+    return run(cache, cmcore_unload_all, loaders, loaders_len, number, false);
+}
+
+int32_t cmcache_submit_tighten(cmcache *cache, const char *loader, size_t loader_len,
+                               uint64_t *number)
+{
+    return run(cache, cmcore_tighten, loader, loader_len, number, false);
+}
+
+int32_t cmcache_wait(cmcache *cache, uint64_t number)
+{
+    pthread_mutex_lock(&cache->mutex);
+    int32_t status = number > cache->accepted ? CMCORE_NONE : wait_for(cache, number);
+    pthread_mutex_unlock(&cache->mutex);
+    return status;
+}
+
+int32_t cmcache_stored(cmcache *cache, uint64_t *number)
+{
+    pthread_mutex_lock(&cache->mutex);
+    *number = cache->stored;
+    int32_t status = cache->failed ? CMCORE_BROKEN : CMCORE_OK;
+    pthread_mutex_unlock(&cache->mutex);
+    return status;
 }
 
 /* ---- look-ups */

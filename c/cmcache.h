@@ -5,9 +5,10 @@
  * stored together. docs/C.md has examples, and says what of this is proved.
  *
  * Who owns what. A cache is made by cmcache_open and belongs to the caller, who gives it back by
- * cmcache_close. A cmcache_prepared or cmcache_record begins as {0}, which is empty; a call fills
- * it, and it must be empty then. The caller releases it, before or after the cache is closed. Names
- * and bytes that are passed in are read during the call alone.
+ * cmcache_close. A cmcache_prepared or cmcache_record begins as CMCACHE_EMPTY, or {0}; a call fills
+ * it, and it must be empty then. Neither is copied: of a call with a copy nothing is promised. The
+ * caller releases it, before or after the cache is closed. Names and bytes that are passed in are
+ * read during the call alone.
  *
  * What may run at the same time. All calls with one cache, except cmcache_close: no other call with
  * the cache may run by then, or begin later. Calls with one prepared class, or with one record, run
@@ -34,7 +35,7 @@ extern "C" {
 enum {
     CMCACHE_DEVICE = 40,      /* a call of the system on the file failed */
     CMCACHE_EXISTS = 41,      /* something has the name of the file that is to be made */
-    CMCACHE_BUSY = 42,        /* the file is open as a cache, in this process or another */
+    CMCACHE_BUSY = 42,        /* the file is in use, in this process or another */
     CMCACHE_NOT_REGULAR = 43  /* a folder, a pipe, a device */
 };
 
@@ -49,6 +50,13 @@ typedef struct {
     cmcore_handle handle;
 } cmcache_record;
 
+/* What a prepared class or a record is before it is filled. */
+#define CMCACHE_EMPTY {{false, NULL}}
+
+/* The version of this header, and of the library. */
+#define CMCACHE_VERSION "0.2.0"
+const char *cmcache_version(void);
+
 /* What a status means, in a few words of English. */
 const char *cmcache_status_text(int32_t status);
 
@@ -60,12 +68,12 @@ const char *cmcache_status_text(int32_t status);
  * last three there is no such file, unless it can't be removed. */
 int32_t cmcache_format(const char *path, uint32_t top, uint32_t roots, uint32_t slots);
 
-/* Opens the cache in a file, and locks the file (flock) until it is closed. Only this interface
- * looks at the lock: no program of cmcache may use the file meanwhile. A file of version 1 is
- * upgraded; if that fails, it still holds the same loaders and classes. The file is mapped while
- * it is read: if its device can't give a byte then, or somebody cuts the file, the system sends
- * SIGBUS. OK, and *cache is set; DAMAGED, and *damage says where, unless it is NULL; NOT_A_CACHE,
- * BUSY, NOT_REGULAR, TOO_LONG, DEVICE; NO_MEMORY, also if no thread can be started. */
+/* Opens the cache in a file, and locks the file (flock) until it is closed, as the programs of
+ * cmcache do: meanwhile nothing else writes to it. A file of version 1 is upgraded; if that fails,
+ * it still holds the same loaders and classes. The file is mapped while it is read: if its device
+ * can't give a byte then, or somebody cuts the file, the system sends SIGBUS. OK, and *cache is
+ * set; DAMAGED, and *damage says where, unless it is NULL; NOT_A_CACHE, BUSY, NOT_REGULAR,
+ * TOO_LONG, DEVICE; NO_MEMORY, also if no thread can be started. */
 int32_t cmcache_open(const char *path, cmcache **cache, cmcore_damage *damage);
 
 /* Closes the cache: all that was accepted is stored, unless the device failed. The cache is gone
@@ -120,6 +128,33 @@ int32_t cmcache_unload_all(cmcache *cache, const char *loaders, size_t loaders_l
 
 /* Compacts: moves the records on the loader's last chunk to a better one. */
 int32_t cmcache_tighten(cmcache *cache, const char *loader, size_t loader_len, uint64_t *number);
+
+/* ---- commands that aren't waited for
+ *
+ * Each is the command above without the wait: OK, and the command has this number, is found by
+ * look-ups at once, and will be stored with those before it; or it is refused, as above. A crash
+ * leaves the commands up to some number, with all that were waited for or known to be stored; of
+ * the others those with the highest numbers may be lost. So a server submits the classes of its
+ * start, works on, and waits for the last number. */
+
+int32_t cmcache_submit_add_loader(cmcache *cache, const char *loader, size_t loader_len,
+                                  uint64_t *number);
+int32_t cmcache_submit_define(cmcache *cache, const char *loader, size_t loader_len,
+                              cmcache_prepared *prepared, uint64_t *number);
+int32_t cmcache_submit_unload(cmcache *cache, const char *loader, size_t loader_len,
+                              uint64_t *number);
+int32_t cmcache_submit_unload_all(cmcache *cache, const char *loaders, size_t loaders_len,
+                                  uint64_t *number);
+int32_t cmcache_submit_tighten(cmcache *cache, const char *loader, size_t loader_len,
+                               uint64_t *number);
+
+/* Waits until the command of this number, and so each before it, is stored. OK; UNSURE if the
+ * device failed before that is known; NONE if no command has the number yet. */
+int32_t cmcache_wait(cmcache *cache, uint64_t number);
+
+/* Sets the number of the last command that is known to be stored, without a wait. OK, and BROKEN
+ * once the device has failed: no later one will be known. */
+int32_t cmcache_stored(cmcache *cache, uint64_t *number);
 
 /* ---- look-ups */
 

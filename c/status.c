@@ -1,4 +1,10 @@
+/* What the library says of itself. */
 #include "cmcache.h"
+
+const char *cmcache_version(void)
+{
+    return CMCACHE_VERSION;
+}
 
 const char *cmcache_status_text(int32_t status)
 {
@@ -28,7 +34,7 @@ const char *cmcache_status_text(int32_t status)
     case CMCORE_TOO_LONG: return "the file is longer than 2^40 bytes";
     case CMCACHE_DEVICE: return "the device failed";
     case CMCACHE_EXISTS: return "the file exists";
-    case CMCACHE_BUSY: return "the file is open already";
+    case CMCACHE_BUSY: return "the file is in use";
     case CMCACHE_NOT_REGULAR: return "not a regular file";
     default: return "unknown status";
     }

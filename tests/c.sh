@@ -132,6 +132,10 @@ passes "sixteen threads that are killed" \
 passes "sixteen threads on a machine that stops" \
     python3 tests/soak_stop.py "$CMCACHE" "$work/soak" 16 "${MOMENTS:-50}" "$seed"
 
+build submit tests/c/submit.c "$cc" -O2
+passes "commands that aren't waited for, killed" \
+    python3 tests/submit_kill.py "$CMCACHE" "$work/submit" "${KILLS:-50}" "$seed"
+
 # ---- the examples, with classes that the machine's Java compiler writes
 
 # prints NAME WORD..: the words run an example, whose output ends with the record of a class.
@@ -153,7 +157,8 @@ if has javac "the examples" && mkdir "$work/classes" && javac --release 8 -Xlint
     check_last "bin/build_c"
     build define examples/c/define.c "$cc" -O2
     prints C "$work/define"
-    if has rustc "the example in Rust"; then
+    # Without a toolchain rustup's rustc is there, and runs nothing.
+    if has rustc "the example in Rust" && rustc --version >/dev/null; then
         rustc --edition 2021 -O -D warnings -o "$work/define_rust" examples/rust/main.rs \
             -L native="$work/c" -l static=cmcache
         prints Rust "$work/define_rust"

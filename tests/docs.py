@@ -1,8 +1,8 @@
 #!/usr/bin/env python3
 """Checks that README.md and docs/ name only what exists: reads the repository at the current
 folder, prints a line for each thing named that doesn't exist, and last how many were checked: 'N
-passed, M failed'. Of README.md also that its library example is code of cm_example, and that its
-limits are those of the code.
+passed, M failed'. Also that the library's example is code of cm_example, and that the limits of
+README.md are those of the code.
 
     tests/docs.py
 """
@@ -165,12 +165,11 @@ def having(kinds):
 
 
 def planted():
-    """The mutants that the proofs' tables name, by their path in the audit or in a crate of
-    their row: one that the row or the text above its table names, or whose type the contract names;
-    if there is none, one that has a function named there."""
+    """The mutants that the proofs' tables name, by their path under mutants/ or in must-fail/ of a
+    crate of their row: one that the row or the text above its table names, or whose type the
+    contract names; if there is none, one that has a function named there."""
     in_gate = {crate: edits(f"crates/{crate}/must-fail") for crate in CRATES}
-    in_audit = {crate: edits(f"audit/{crate}") for crate in CRATES}
-    audited = {f"audit/{crate}/{name}" for crate in CRATES for name in in_audit[crate]}
+    others = {f"mutants/{crate}/{name}" for crate in CRATES for name in edits(f"mutants/{crate}")}
     types, functions = having("struct|enum|trait"), having("fn")
     for number, above, (claim, contract, column, _) in claims():
         names = [span.split("::")[0] for span in spans(contract)]
@@ -178,23 +177,14 @@ def planted():
                              *(types.get(name, ()) for name in names))
         crates = crates or set().union(*(functions.get(name, ()) for name in names))
         of = f"of {', '.join(sorted(crates)) or 'no crate'}"
-        named, _, behind = column.partition("in the audit")
-        for name in spans(named):
-            there = (name in audited or name in CRATES
+        for name in spans(column):
+            there = (name in others or name in CRATES
                      or any(name in in_gate[crate] for crate in crates))
             yield there, f"{PROOFS}:{number}: the mutant {name} {of}"
-        for name in spans(behind):
-            yield (any(name in in_audit[crate] for crate in crates),
-                   f"{PROOFS}:{number}: the mutant {name} in the audit {of}")
 
 
 README = TOP / "README.md"
-
-
-def fenced(kind):
-    """The blocks of README.md in a fence of this kind, each as its lines."""
-    return [block.splitlines()
-            for block in re.findall(rf"^```{kind}\n(.*?)^```$", README.read_text(), re.S | re.M)]
+LIBRARY = TOP / "docs/LIBRARY.md"
 
 
 # An item of a program: a function or a struct with its comment and attributes, or an `impl`.
@@ -202,12 +192,11 @@ ITEM = re.compile(r"^(?:///.*\n)*(?:#\[.*\]\n)*(?:fn|struct|impl)\b(?:.*\n)+?}\n
 
 
 def example():
-    """README.md's library example is code of cm_example, which CI proves and runs: each block is a
-    whole item of it, byte for byte."""
+    """The library's example is code of cm_example, which CI proves and runs: each block is a whole
+    item of it, byte for byte."""
     items = ITEM.findall((TOP / "crates/cm_example/src/main.rt").read_text())
-    for block in fenced("rust"):
-        text = "".join(f"{line}\n" for line in block)
-        yield text in items, f"{README}: a whole item of cm_example: {block[0]}"
+    for block in re.findall(r"^```rust\n(.*?)^```$", LIBRARY.read_text(), re.S | re.M):
+        yield block in items, f"{LIBRARY}: a whole item of cm_example: {block.splitlines()[0]}"
 
 
 # The limits of README.md: the row, which of its numbers, and the code that says the same, with N

@@ -16,7 +16,8 @@ import oracle
 import region
 
 A_GROUP = oracle.GROUP_SLOTS
-LINE = re.compile(rb"imported (\d+) there (\d+) skipped (\d+) refused (\d+) number (\d+)")
+LINE = re.compile(rb"imported (\d+) there (\d+) changed (\d+) skipped (\d+) "
+                  rb"refused (\d+) number (\d+)")
 
 
 def class_bytes(name, zeros=0):
@@ -67,9 +68,9 @@ class Bench:
             f"{len(found)} classes, wanted {len(names)}; {checked}")
 
 
-def line(imported, there=0, skipped=0, refused=0, number=0):
-    return (f"imported {imported} there {there} skipped {skipped} refused {refused} "
-            f"number {number}").encode()
+def line(imported, there=0, skipped=0, refused=0, number=0, changed=0):
+    return (f"imported {imported} there {there} changed {changed} skipped {skipped} "
+            f"refused {refused} number {number}").encode()
 
 
 def names_of(count):
@@ -122,6 +123,33 @@ def usual(bench):
     path = bench.new_path()
     bench.says("jars in a folder", bench.run(path, "app", jars, "--new"), line(11, number=12), 0)
     return jar, names
+
+
+def never_stale(bench):
+    """A class that changed in the jar since it was imported is reported, and stays as it was."""
+    names = [f"p/C{at:02}" for at in range(30)]
+    old, new = bench.path("old.jar"), bench.path("new.jar")
+    make_jar(old, [(f"{name}.class", class_bytes(name, 8)) for name in names])
+    path = bench.new_path()
+    bench.says("as it was", bench.run(path, "app", old, "--new"), line(30, number=31), 0)
+    held = harness.read(path)
+    make_jar(new, [(f"{name}.class", class_bytes(name, 8 if at < 3 else 9))
+                   for at, name in enumerate(names)])
+    got = bench.run(path, "app", new)
+    bench.says("changed since", got, line(0, there=3, changed=27, number=31), 1,
+               [f"{name}.class: changed" for name in names[3:23]] +
+               ["changed 7 more", "the loader keeps its classes"])
+    bench.checks.check("changed since: the file", harness.read(path) == held)
+    make_jar(new, [("p/C00.class", class_bytes("p/C00", 9)), ("New.class", class_bytes("New"))])
+    got = bench.run(path, "app", new)
+    bench.says("one changed, one new", got, line(1, changed=1, number=32), 1,
+               ["p/C00.class: changed", "the loader keeps its classes"])
+    # On a class path the first class of a name counts: the others aren't changed ones.
+    path = bench.new_path()
+    bench.says("a class of two jars", bench.run(path, "app", old, new, "--new"),
+               line(31, there=1, number=32), 0)
+    bench.says("a class of two jars, once more", bench.run(path, "app", old, new),
+               line(0, there=32, number=32), 0)
 
 
 def readme(bench):
@@ -189,11 +217,13 @@ def words(bench, jar):
     got = bench.run(path, "app", jar, "--new")
     bench.checks.check("a file that is there", got[0] == [b"exists"] and got[1] == 1, f"{got}")
     got = bench.run(path, "bad name", jar)
-    bench.checks.check("a bad name", got[0] == [b"refused 1 name"] and got[1] == 1, f"{got}")
+    bench.checks.check("a bad name", got[:2] == ([b"refused 1 name"], 1), f"{got}")
+    bench.checks.check("a bad name: what a name is", "1 to 96 bytes" in got[2], f"{got}")
     with open(path, "r+b") as file:
         file.write(b"spoilt")
     got = bench.run(path, "app", jar)
-    bench.checks.check("no cache", got[0] == [b"not a cache"] and got[1] == 1, f"{got}")
+    bench.checks.check("no cache", got[:2] == ([b"not a cache"], 1), f"{got}")
+    bench.checks.check("no cache: which file", f"{path}: not a cache" in got[2], f"{got}")
 
 
 def full(bench, jar, names):

@@ -62,8 +62,8 @@ fi
 clone=$work/clone
 mkdir "$clone" "$work/path"
 tar -c --exclude=out bin crates crates.txt HANDLES release examples | tar -x -C "$clone"
-for tool in bash cat chmod cut dirname env find git gzip mkdir mktemp mv readlink rm sed sha256sum \
-    sort uname xargs; do
+for tool in bash cat chmod cut dirname env find git gzip id mkdir mktemp mv readlink rm sed \
+    sha256sum sort stat uname xargs; do
     ln -s "$(command -v "$tool")" "$work/path/$tool"
 done
 ln -s "$(python3 -c 'import sys; print(sys.executable)')" "$work/path/python3"
@@ -119,6 +119,18 @@ without_kit bin/cmcache apply --memory
 check_status "changed sources aren't run unproved" 3 says
 rm "$work/path/rt"
 git -C "$clone" checkout -q -- crates
+
+# A version has one set of bytes.
+sed "s/^cmcache .*/cmcache $(printf '%064d' 0)/" "$clone/release/list.txt" >"$work/list"
+[ -n "$(repository=$clone && other_release "$work/list")" ]
+check_last "a version with other bytes than in the history is found"
+[ -z "$(repository=$clone && other_release "$clone/release/list.txt")" ]
+check_last "the same bytes under its version are right"
+sed -i 's/^version .*/version 99.0.0/' "$work/list"
+[ -z "$(repository=$clone && other_release "$work/list")" ]
+check_last "other bytes under a new version are right"
+[ -z "$(other_release release/list.txt)" ]
+check_last "the release of this checkout has bytes of its own under its version"
 
 # Bytes that aren't those of the list.
 rm -rf "$clone/out"

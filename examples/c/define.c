@@ -31,7 +31,7 @@ static void define(cmcache *cache, const char *path)
     }
     size_t len = fread(bytes, 1, sizeof bytes, file);
     fclose(file);
-    cmcache_prepared prepared = {0};
+    cmcache_prepared prepared = CMCACHE_EMPTY;
     uint64_t number;
     check(path, cmcache_prepare(bytes, len, &prepared, NULL));
     check(path, cmcache_define(cache, loader, strlen(loader), &prepared, &number));
@@ -41,7 +41,7 @@ static void define(cmcache *cache, const char *path)
 
 static void find(cmcache *cache, const char *name)
 {
-    cmcache_record record = {0};
+    cmcache_record record = CMCACHE_EMPTY;
     const uint64_t *words;
     size_t count;
     uint16_t flags;

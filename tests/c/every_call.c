@@ -302,7 +302,7 @@ static void takes_commands(void)
 {
     cmcache *cache = new_cache("commands", 8, 64, 4096);
     cmcache_prepared prepared = {0}, none = {0};
-    cmcache_record record = {0}, other = {0};
+    cmcache_record record = {0}, other = {0}, none_found = CMCACHE_EMPTY;
     cmcore_stats stats = {0};
     uint64_t number = 0;
     EXPECT(CMCORE_OK, cmcache_prepare(class_a, sizeof class_a, &prepared, NULL));
@@ -332,7 +332,7 @@ static void takes_commands(void)
     EXPECT(CMCORE_NO_LOADER, cmcache_unload(cache, TEXT("lib"), &number));
     EXPECT(CMCORE_OK, cmcache_unload(cache, TEXT("app"), &number));
     CHECK(number == 5 && is_record_a(&record));
-    EXPECT(CMCORE_NONE, cmcache_find(cache, TEXT("app"), TEXT("A"), &(cmcache_record){0}));
+    EXPECT(CMCORE_NONE, cmcache_find(cache, TEXT("app"), TEXT("A"), &none_found));
     /* The chunk of `ext` is the second; the first is free now. */
     EXPECT(CMCORE_OK, cmcache_tighten(cache, TEXT("ext"), &number));
     CHECK(number == 6);
@@ -349,6 +349,49 @@ static void takes_commands(void)
     EXPECT(CMCORE_OK, cmcache_find(cache, TEXT("ext"), TEXT("A"), &record));
     CHECK(is_record_a(&record));
     cmcache_release_record(&record);
+    EXPECT(CMCORE_OK, cmcache_close(cache));
+}
+
+/* Commands that aren't waited for are found at once, and stored in order. */
+static void submits_commands(void)
+{
+    cmcache *cache = new_cache("submitted", 8, 64, 4096);
+    cmcache_prepared prepared = CMCACHE_EMPTY;
+    cmcache_record record = CMCACHE_EMPTY;
+    cmcore_stats stats = {0};
+    uint64_t number = 0, stored = 9;
+    EXPECT(CMCORE_OK, cmcache_stored(cache, &stored));
+    CHECK(stored == 0);
+    EXPECT(CMCORE_OK, cmcache_wait(cache, 0));
+    EXPECT(CMCORE_NONE, cmcache_wait(cache, 1));
+    EXPECT(CMCORE_OK, cmcache_prepare(class_a, sizeof class_a, &prepared, NULL));
+    EXPECT(CMCORE_NO_LOADER, cmcache_submit_define(cache, TEXT("app"), &prepared, &number));
+    EXPECT(CMCORE_BAD_NAME, cmcache_submit_add_loader(cache, TEXT("a b"), &number));
+    CHECK(number == 0);
+    EXPECT(CMCORE_OK, cmcache_submit_add_loader(cache, TEXT("app"), &number));
+    EXPECT(CMCORE_LOADER_EXISTS, cmcache_submit_add_loader(cache, TEXT("app"), &number));
+    EXPECT(CMCORE_OK, cmcache_submit_define(cache, TEXT("app"), &prepared, &number));
+    CHECK(number == 2);
+    EXPECT(CMCORE_OK, cmcache_find(cache, TEXT("app"), TEXT("A"), &record));
+    CHECK(is_record_a(&record));
+    cmcache_release_record(&record);
+    EXPECT(CMCORE_OK, cmcache_submit_add_loader(cache, TEXT("ext"), &number));
+    EXPECT(CMCORE_OK, cmcache_submit_define(cache, TEXT("ext"), &prepared, &number));
+    cmcache_release_prepared(&prepared);
+    EXPECT(CMCORE_OK, cmcache_submit_unload(cache, TEXT("app"), &number));
+    CHECK(number == 5);
+    EXPECT(CMCORE_OK, cmcache_wait(cache, 5));
+    EXPECT(CMCORE_OK, cmcache_stored(cache, &stored));
+    CHECK(stored == 5);
+    EXPECT(CMCORE_NONE, cmcache_wait(cache, 6));
+    EXPECT(CMCORE_OK, cmcache_submit_tighten(cache, TEXT("ext"), &number));
+    EXPECT(CMCORE_OK, cmcache_submit_unload_all(cache, TEXT("ext"), &number));
+    CHECK(number == 7);
+    EXPECT(CMCORE_OK, cmcache_close(cache));
+    EXPECT(CMCORE_OK, cmcache_open(path_of("submitted"), &cache, NULL));
+    EXPECT(CMCORE_OK, cmcache_stats(cache, &stats));
+    CHECK(stats.stored == 7);
+    EXPECT(CMCORE_NONE, cmcache_find(cache, TEXT("ext"), TEXT("A"), &record));
     EXPECT(CMCORE_OK, cmcache_close(cache));
 }
 
@@ -447,6 +490,12 @@ static void meets_a_limit(void)
     cmcache_release_record(&record);
     EXPECT(CMCORE_OK, cmcache_stats(cache, &stats));
     CHECK(stats.accepted == 2 && stats.stored == 1);
+    EXPECT(CMCORE_OK, cmcache_wait(cache, 1));
+    EXPECT(CMCORE_UNSURE, cmcache_wait(cache, 2));
+    EXPECT(CMCORE_NONE, cmcache_wait(cache, 3));
+    EXPECT(CMCORE_BROKEN, cmcache_stored(cache, &number));
+    CHECK(number == 1);
+    EXPECT(CMCORE_BROKEN, cmcache_submit_add_loader(cache, TEXT("ext"), &number));
     errno = 0;
     EXPECT(CMCACHE_DEVICE, cmcache_close(cache));
     EXPECT(EFBIG, errno);
@@ -606,6 +655,7 @@ int main(int count, char **words)
     prepares_classes();
     reads_records();
     takes_commands();
+    submits_commands();
     checks_names();
     unloads_several();
     runs_out_of_room();
@@ -613,6 +663,7 @@ int main(int count, char **words)
     serves_threads();
     fails_for_threads();
     names_statuses();
+    CHECK(!strcmp(cmcache_version(), CMCACHE_VERSION));
     printf("%d passed, %d failed\n", passed, failed);
     return failed != 0;
 }

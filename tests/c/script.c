@@ -288,6 +288,7 @@ static bool run_line(struct text line)
 static int fail(const char *path, int32_t status, const cmcore_damage *damage)
 {
     int cause = errno;
+    bool is_refused = status == CMCACHE_DEVICE || status == CMCACHE_BUSY;
     if (status == CMCORE_DAMAGED)
         print("damaged %u %u\n", damage->what, damage->slot);
     else if (status == CMCORE_NO_MEMORY)
@@ -295,10 +296,12 @@ static int fail(const char *path, int32_t status, const cmcore_damage *damage)
     else if (status == CMCACHE_EXISTS)
         print("exists\n");
     else
-        print(status == CMCACHE_DEVICE ? "device\n" : "not a cache\n");
+        print(is_refused ? "device\n" : "not a cache\n");
     if (status == CMCACHE_DEVICE)
         fprintf(stderr, "cmcache: %s: %s (os error %d)\n", path, strerror(cause), cause);
-    return status == CMCACHE_DEVICE || status == CMCORE_NO_MEMORY ? 3 : 1;
+    else if (status == CMCACHE_BUSY)
+        fprintf(stderr, "cmcache: %s: in use by another process\n", path);
+    return is_refused || status == CMCORE_NO_MEMORY ? 3 : 1;
 }
 
 static int format(int count, char **words)

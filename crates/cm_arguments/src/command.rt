@@ -7,7 +7,7 @@ use std::alloc::{AllocError, Global};
 const PROGRAM: &str = "cmcache";
 
 // The version is that of the newest heading in CHANGELOG.md.
-const ABOUT: &str = "A crash-safe cache of class metadata, version 0.1.0";
+const ABOUT: &str = "A crash-safe cache of class metadata, version 0.2.0";
 
 // The names of the commands and of their arguments.
 pub const FORMAT: &str = "format";

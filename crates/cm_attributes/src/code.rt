@@ -88,7 +88,7 @@ fn skip_attributes<'b>(class: &Class, bytes: &'b [u8]) -> Option<&'b [u8]>
 
 /// How many bytes the code has, 1 to 65,535, and the bytes after them.
 #[tactic(auto, unfolding(crate::specs::Contents::code_of))]
-fn read_code(bytes: &[u8]) -> Option<(u32, &[u8])>
+pub fn read_code(bytes: &[u8]) -> Option<(u32, &[u8])>
     ensures { option_map (λ x. (x.0, x.1.now)) result ≡ code_of bytes.now }
 {
     let (size, rest) = read_u4(bytes)?;

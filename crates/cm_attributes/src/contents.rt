@@ -46,7 +46,7 @@ pub fn is_content(class: &Class, known: Known, bytes: &[u8]) -> bool
 
 /// The kind of constant that a field of this descriptor may have (JVMS 4.7.2, table 4.7.2-A).
 #[tactic(auto, unfolding(crate::specs::Contents::value_kind))]
-fn value_kind(descriptor: &[u8]) -> Option<Kind>
+pub fn value_kind(descriptor: &[u8]) -> Option<Kind>
     ensures { result ≡ value_kind descriptor.now }
 {
     if descriptor == b"J".as_slice() {

@@ -11,6 +11,8 @@ mod numbers;
 mod part;
 
 pub use bootstrap_counts::bootstrap_count;
-pub use contents::{is_content, is_value_of};
+pub use code::read_code;
+pub use contents::{is_content, is_value_of, value_kind};
 pub use known::{Known, count, first_place, is_known};
 pub use laws::{content_is_its_parts, value_is_its_part};
+pub use numbers::{is_whole, read_u2, read_u4, skip};

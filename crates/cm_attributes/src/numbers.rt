@@ -3,7 +3,7 @@ ghost use Rattle.std.specs.Prelude.{◌≡◌, option_copied, option_map};
 ghost use Rattle.cm_attributes.specs.Contents.{u2_of, u4_of, past, is_whole};
 
 /// A number of two bytes.
-pub(crate) fn read_u2(bytes: &[u8]) -> Option<(u16, &[u8])>
+pub fn read_u2(bytes: &[u8]) -> Option<(u16, &[u8])>
     ensures { option_map (λ x. (x.0, x.1.now)) result ≡ u2_of bytes.now }
 {
     match bytes {
@@ -13,7 +13,7 @@ pub(crate) fn read_u2(bytes: &[u8]) -> Option<(u16, &[u8])>
 }
 
 /// A number of four bytes.
-pub(crate) fn read_u4(bytes: &[u8]) -> Option<(u32, &[u8])>
+pub fn read_u4(bytes: &[u8]) -> Option<(u32, &[u8])>
     ensures { option_map (λ x. (x.0, x.1.now)) result ≡ u4_of bytes.now }
 {
     match bytes {
@@ -23,7 +23,7 @@ pub(crate) fn read_u4(bytes: &[u8]) -> Option<(u32, &[u8])>
 }
 
 /// The bytes after the first `len`.
-pub(crate) fn skip(len: usize, bytes: &[u8]) -> Option<&[u8]>
+pub fn skip(len: usize, bytes: &[u8]) -> Option<&[u8]>
     ensures { option_copied result ≡ past len bytes.now }
 {
     if bytes.len() < len {
@@ -33,7 +33,7 @@ pub(crate) fn skip(len: usize, bytes: &[u8]) -> Option<&[u8]>
 }
 
 /// Whether everything was read, and nothing is left.
-pub(crate) fn is_whole(rest: Option<&[u8]>) -> bool
+pub fn is_whole(rest: Option<&[u8]>) -> bool
     ensures { result ≡ is_whole (option_copied rest.entry) }
 {
     match rest {

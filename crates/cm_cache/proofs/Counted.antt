@@ -10,7 +10,7 @@ use Rattle.cm_cache.specs.declared.board_view.Seen.{Seen}
 use Rattle.cm_cache.specs.declared.channel.Base.{Base}
 use Rattle.cm_cache.specs.declared.channel.Message.{Message}
 use Rattle.cm_cache.specs.Channel.{entries_of}
-use Rattle.cm_cache.specs.Handing.{IsLastHanded}
+use Rattle.cm_cache.specs.Handing.{AreHanded}
 use Rattle.cm_cache.specs.Shared.{PassState}
 use Rattle.cm_cache.specs.Closing.{TallyState, AreTaken}
 
@@ -28,7 +28,8 @@ none_taken base old posted sent = record {
   seen = All-nil _;
   marked = All-nil _;
   sent_is = refl;
-  lasts = All-nil _;
+  counted = All-nil _;
+  changes = All-nil _;
 }
 
 pub one_taken : (base : Base) (old now new : TallyState) (posted then after : Seen)
@@ -37,10 +38,10 @@ pub one_taken : (base : Base) (old now new : TallyState) (posted then after : Se
     → new.missing + 1 ≡ now.missing → new.of_passes ≡ now.of_passes + p.share → after ≡ then
     → p.seen.receipt.number ≤ then.receipt.number
     → (p.marked ≡ true → then.broken ≡ true) → sent_after ≡ sent_then
-    → IsLastHanded base (entries_of sent_then) p.last
+    → length p.changes ≡ p.share → AreHanded base (entries_of sent_then) p.changes
     → AreTaken base old posted sent (passes ++ p ∷ []) new after sent_after
 one_taken base old now new posted then after sent sent_then sent_after passes p a handed missing
-    share same seen marked same_sent last = record {
+    share same seen marked same_sent counted changes = record {
       handed = handed ∙ a.handed;
       missing =
           let before = a.missing in
@@ -56,8 +57,10 @@ one_taken base old now new posted then after sent sent_then sent_after passes p 
       marked = All-push (λ (q : PassState). q.marked ≡ true → posted.broken ≡ true) passes p
           a.marked (λ m. sym (ap (λ (s : Seen). s.broken) a.posted_is) ∙ marked m);
       sent_is = same_sent ∙ a.sent_is;
-      lasts = All-push (λ (q : PassState). IsLastHanded base (entries_of sent) q.last) passes p
-          a.lasts (subst (λ l. IsLastHanded base (entries_of l) p.last) a.sent_is last);
+      counted =
+          All-push (λ (q : PassState). length q.changes ≡ q.share) passes p a.counted counted;
+      changes = All-push (λ (q : PassState). AreHanded base (entries_of sent) q.changes) passes p
+          a.changes (subst (λ l. AreHanded base (entries_of l) p.changes) a.sent_is changes);
     }
 
 pub all_taken : (base : Base) (old new : TallyState) (posted now : Seen) (sent after : List Message)

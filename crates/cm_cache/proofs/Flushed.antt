@@ -18,8 +18,8 @@ use Rattle.cm_cache.specs.declared.channel.Message.{Message}
 use Rattle.cm_cache.specs.declared.channel.Message.TheVariants.{Group, End}
 use Rattle.cm_cache.specs.Channel.{entries_of, is_open, MayBeSent}
 use Rattle.cm_cache.specs.Storing.{IsCommittedGroup, IsLeftBroken}
-use Rattle.cm_cache.specs.Flushing.{waiting, WaitsOn, FlushingState, IsFlushing}
-use Rattle.cm_cache.specs.Flushing.{EndedState, IsEnded, IsOldest}
+use Rattle.cm_cache.specs.Flushing.{waiting, WaitsOn, HasCommitted, FlushingState, IsFlushing}
+use Rattle.cm_cache.specs.Flushing.{EndedState, IsEnded, IsOldest, OnlyReceives}
 use Rattle.cm_cache.proofs.Tied.{entries-append}
 
 -- ---- the End
@@ -40,6 +40,44 @@ off e = true≢false e
 none_is : (o : Option Handed) → is_some o ≡ false → o ≡ None
 none_is None e = refl
 none_is (Some g) e = absurd (off e)
+
+-- ---- what is received
+
+pub receives_none : {D : Type 0} (f : FlushingState D) → OnlyReceives f f
+receives_none f = record {
+  same = refl;
+  posted = refl;
+  more = [];
+  received = sym (append-nil f.received);
+}
+
+pub receives_one : {D : Type 0} (old inside new : FlushingState D) (m : Message) → inside ≡ old
+    → new.committer ≡ inside.committer → new.posted ≡ inside.posted
+    → new.received ≡ inside.received ++ m ∷ [] → OnlyReceives old new
+receives_one old inside new m is same posted received = record {
+  same = same ∙ ap (λ (f : FlushingState _). f.committer) is;
+  posted = posted ∙ ap (λ (f : FlushingState _). f.posted) is;
+  more = m ∷ [];
+  received = received ∙ ap (λ (f : FlushingState _). f.received ++ m ∷ []) is;
+}
+
+pub drops_one : {D : Type 0} (old inside : EndedState D) (received : List Message) (m : Message)
+    → inside ≡ old → received ≡ inside.received ++ m ∷ []
+    → (more : List Message) × (received ≡ old.received ++ more)
+drops_one old inside received m is more =
+    (m ∷ [], more ∙ ap (λ (e : EndedState _). e.received ++ m ∷ []) is)
+
+pub receives_on : {D : Type 0} (a b c : FlushingState D) → OnlyReceives a b → OnlyReceives b c
+    → OnlyReceives a c
+receives_on a b c first second = record {
+  same = second.same ∙ first.same;
+  posted = second.posted ∙ first.posted;
+  more = first.more ++ second.more;
+  received =
+      second.received
+      ∙ ap (λ l. l ++ second.more) first.received
+      ∙ append_assoc a.received first.more second.more;
+}
 
 module _ {D : Type 0} (base : Base) (failed : ℕ) (failures : D → ℕ) where
   -- ---- receiving
@@ -197,6 +235,22 @@ module _ {D : Type 0} (base : Base) (failed : ℕ) (failures : D → ℕ) where
         (subst (WaitsOn base i.done) next_is i.next_on));
   }
 
+  pub has_stored : (f : FlushingState D) (group : Handed) (told : ℕ) (committer : CommitterState D)
+      (i : IsFlushing base failed failures f) → IsCommittedGroup f.committer group told committer
+      → HasCommitted base (i.done ++ group.entries) committer
+  has_stored f group told committer i is = record {
+    sizes = is.sizes ∙ i.at.sizes;
+    rows =
+        is.rows
+        ∙ ap (λ rows. rows_after_group rows group.entries) i.at.rows
+        ∙ sym (rows_after_two base.rows i.done group.entries);
+    number =
+        let count = length-append i.done group.entries in
+        let number = is.number in
+        let before = i.at.number in
+        omega (arith, count, number, before);
+  }
+
   pub stored : (f : FlushingState D) (group : Handed) (told : ℕ) (committer : CommitterState D)
       (posted : Seen) → IsFlushing base failed failures f → f.next ≡ Some group
       → IsCommittedGroup f.committer group told committer
@@ -213,18 +267,7 @@ module _ {D : Type 0} (base : Base) (failed : ℕ) (failures : D → ℕ) where
         i.all
         ∙ ap (λ (o : Option Handed). i.done ++ (waiting o ++ waiting f.behind)) next_is
         ∙ sym (append_assoc i.done group.entries (waiting f.behind));
-    at = record {
-      sizes = is.sizes ∙ i.at.sizes;
-      rows =
-          is.rows
-          ∙ ap (λ rows. rows_after_group rows group.entries) i.at.rows
-          ∙ sym (rows_after_two base.rows i.done group.entries);
-      number =
-          let count = length-append i.done group.entries in
-          let number = is.number in
-          let before = i.at.number in
-          omega (arith, count, number, before);
-    };
+    at = has_stored f group told committer i is;
     sound = is.sound;
     idle = is.idle;
     says =

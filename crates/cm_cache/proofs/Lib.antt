@@ -2,7 +2,6 @@ mod ChannelSteps
 mod BoardSteps
 mod Tied
 mod Shown
-mod Stood
 mod Changed
 mod Stored
 mod Flushed

@@ -1,23 +1,27 @@
 -- What a crash leaves while groups are stored, beside what the Board says.
--- For `Flushing::images`, `Flushing::store`, `Ended::images`, `Poster::post`.
-use Rattle.std.proofs.Common.{◌≡◌, ℕ, ◌+◌, ◌-◌, List, ◌++◌, Some, None, length, sym, ap, subst}
-use Rattle.std.proofs.Common.{◌∙◌, ⊎_elim, arith}
+-- For `Flushing::images`, `Flushing::store`, `Flushing::run`, `Ended::images`, `Poster::post`.
+use Rattle.std.proofs.Common.{◌≡◌, ℕ, ◌+◌, ◌-◌, ◌≤◌, List, [], ◌++◌, Some, None, length, sym, ap}
+use Rattle.std.proofs.Common.{subst, ◌∙◌, ⊎_elim, arith}
+use Rattle.std.proofs.lemmas.List.{append-nil, length-append, take-append-le}
 use Rattle.std.specs.Prelude.{Option}
 use Rattle.cm_disk.specs.Disk.{View}
 use Rattle.cm_group.specs.Groups.{Carried, Handed}
 use Rattle.cm_guards.specs.Calls.{LeavesOnly}
 use Rattle.cm_guards.specs.Stages.{leaves}
-use Rattle.cm_guards.proofs.{leaves_one, leaves_more}
+use Rattle.cm_guards.proofs.{leaves_one, leaves_more, leaves_on}
 use Rattle.cm_commit.specs.Offers.{rows_after_group}
 use Rattle.cm_commit.specs.States.{Work, Storing, Trimming, CommitterState, ShowsCommitted}
-use Rattle.cm_commit.specs.States.{ShowsWith, MayLeave}
+use Rattle.cm_commit.specs.States.{ShowsCache, ShowsWith, MayLeave}
 use Rattle.cm_cache.specs.declared.board_view.Seen.{Seen}
 use Rattle.cm_cache.specs.declared.channel.Base.{Base}
 use Rattle.cm_cache.specs.Board.{ShowsFrom}
+use Rattle.cm_cache.specs.declared.channel.Message.{Message}
 use Rattle.cm_cache.specs.Channel.{entries_of}
 use Rattle.cm_cache.specs.Closing.{ShowsBeginning, ShowsPosted}
 use Rattle.cm_cache.specs.Flushing.{waiting, FlushingState, IsFlushing, EndedState, IsEnded}
+use Rattle.cm_cache.specs.Flushing.{OnlyReceives}
 use Rattle.cm_cache.specs.Storing.{ShowsEither}
+use Rattle.cm_cache.proofs.Shown.{entries_join}
 use Rattle.cm_cache.proofs.Leaving.{either, committed, with_group, one_of}
 
 -- ---- posted
@@ -90,6 +94,68 @@ module _ {D : Type 0} (base : Base) (failed : ℕ) (failures : D → ℕ) (f : F
   moments_posted view new group next_is leaves =
       leaves_more view s.disk new (ShowsEither s group) (ShowsPosted base f.received f.posted)
       (shows_either_posted group next_is) leaves
+
+-- ---- over a whole run
+
+-- more is received, and the Board said less before
+pub shows_grown : (base : Base) (received more : List Message) (posted earlier : Seen)
+    → earlier.receipt.number ≤ posted.receipt.number → (image : List ℕ)
+    → ShowsPosted base received posted image → ShowsPosted base (received ++ more) earlier image
+shows_grown base received more posted earlier before image shows =
+    let to = shows.to in
+    let from = shows.from in
+    let count = length-append (entries_of received) (entries_of more) in
+    subst (λ l. ShowsBeginning base l (earlier.receipt.number - base.number) image)
+    (sym (entries_join received more))
+    (record {
+      stored = shows.stored;
+      from = omega (arith, from, before);
+      to = omega (arith, to, count);
+      shows = subst
+          (λ l. ShowsCache base.sizes (rows_after_group base.rows l) (base.number + shows.stored)
+          image)
+          (sym (take-append-le shows.stored (entries_of received) (entries_of more) to))
+          shows.shows;
+    })
+
+module _ {D : Type 0} (view : View D) (base : Base) (received more : List Message)
+    (posted earlier : Seen) (before : earlier.receipt.number ≤ posted.receipt.number) where
+  grown : (old new : D) → LeavesOnly view old new (ShowsPosted base received posted)
+      → LeavesOnly view old new (ShowsPosted base (received ++ more) earlier)
+  grown old new leaves =
+      leaves_more view old new (ShowsPosted base received posted)
+      (ShowsPosted base (received ++ more) earlier)
+      (shows_grown base received more posted earlier before) leaves
+
+-- what a run left, after more was received
+pub run_grows : {D : Type 0} (view : View D) (base : Base) (received now more : List Message)
+    (earlier : Seen) (old new : D) → now ≡ received ++ more
+    → LeavesOnly view old new (ShowsPosted base received earlier)
+    → LeavesOnly view old new (ShowsPosted base now earlier)
+run_grows view base received now more earlier old new is leaves =
+    subst (λ l. LeavesOnly view old new (ShowsPosted base l earlier)) (sym is)
+    (grown view base received more earlier earlier (omega arith) old new leaves)
+
+pub run_goes : {D : Type 0} (view : View D) (base : Base) (first : D) (earlier : Seen)
+    (old new : FlushingState D) → OnlyReceives old new
+    → LeavesOnly view first old.committer.disk (ShowsPosted base old.received earlier)
+    → LeavesOnly view first new.committer.disk (ShowsPosted base new.received earlier)
+run_goes view base first earlier old new is leaves =
+    subst (λ (s : CommitterState _). LeavesOnly view first s.disk
+    (ShowsPosted base new.received earlier)) (sym is.same)
+    (run_grows view base old.received new.received is.more earlier first old.committer.disk
+    is.received leaves)
+
+-- and after one more group was stored
+pub run_stores : {D : Type 0} (view : View D) (base : Base) (received : List Message)
+    (posted earlier : Seen) (old disk new : D) → earlier.receipt.number ≤ posted.receipt.number
+    → LeavesOnly view old disk (ShowsPosted base received earlier)
+    → LeavesOnly view disk new (ShowsPosted base received posted)
+    → LeavesOnly view old new (ShowsPosted base received earlier)
+run_stores view base received posted earlier old disk new before first second =
+    leaves_on view old disk new (ShowsPosted base received earlier) first
+    (subst (λ l. LeavesOnly view disk new (ShowsPosted base l earlier)) (append-nil received)
+    (grown view base received [] posted earlier before disk new second))
 
 -- ---- once the flusher has ended
 

@@ -30,7 +30,7 @@ use Rattle.cm_cache.specs.declared.channel.Message.{Message}
 use Rattle.cm_cache.specs.declared.channel.Message.TheVariants.{Group, End}
 use Rattle.cm_cache.specs.Channel.{entries_of, is_open}
 use Rattle.cm_cache.specs.Handing.{HandingState, rows_sent, number_sent, IsTied, IsFresh}
-use Rattle.cm_cache.specs.Handing.{TakesOut, HandsOver, SameMarks, with_receipt}
+use Rattle.cm_cache.specs.Handing.{MayAccept, TakesOut, HandsOver, SameMarks, with_receipt}
 
 -- ---- messages
 
@@ -195,6 +195,13 @@ module _ (base : Base) (h : HandingState) (change : Change (List ℕ)) (n : ℕ)
     closed =
         ap (λ (f : FrontState). f.closed) o.hands.after
         ∙ ap (λ (f : FrontState). f.closed) accepts.after;
+  }
+
+  pub may_accept : MayAccept h.front change n
+  may_accept = record {
+    none = o.answers.0;
+    room = o.answers.1;
+    number = accepts.number;
   }
 
   pub hands_over : HandsOver base h.sent change n (h.sent ++ Group group ∷ [])

@@ -1,6 +1,6 @@
 -- The channel from the accepted cache to the flusher: what was sent, what was received, and that
 -- each group continues those sent before it.
-use Rattle.std.specs.Prelude.{◌≡◌, ℕ, Bool, true, false, List, [], ◌∷◌, ◌++◌}
+use Rattle.std.specs.Prelude.{◌≡◌, ℕ, Bool, true, false, List, [], ◌∷◌, ◌++◌, Option, Some, None}
 use mathlib.Core.Option.{some}
 use lib.ListN.{get_elem?}
 use Rattle.atomic_table.specs.Seated.{TableId}
@@ -96,6 +96,11 @@ no_end = witness []
 -- what an end knows once it was joined to a witness
 abbrev pub hearing : ChannelView → ChannelView → ChannelView
 hearing v w = record v { known = w.known }
+
+-- what a witness shows, if there is one
+abbrev pub shown_by : Option (List Message) → List Message
+shown_by None = []
+shown_by (Some sent) = sent
 
 -- ---- the rule
 

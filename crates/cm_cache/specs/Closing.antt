@@ -12,7 +12,7 @@ use Rattle.cm_cache.specs.declared.board_view.Seen.{Seen}
 use Rattle.cm_cache.specs.declared.channel.Base.{Base}
 use Rattle.cm_cache.specs.declared.channel.Message.{Message}
 use Rattle.cm_cache.specs.Channel.{entries_of}
-use Rattle.cm_cache.specs.Handing.{IsLastHanded}
+use Rattle.cm_cache.specs.Handing.{AreHanded}
 use Rattle.cm_cache.specs.Shared.{PassState}
 
 -- ---- counting
@@ -25,7 +25,7 @@ pub record TallyState : Type 0 where
   pub of_passes : ℕ
 
 -- These passes came back: none has seen more on the Board than what was posted, none is marked
--- unless a failure was, and the last change of each was sent.
+-- unless a failure was, and all changes of each were sent.
 pub record AreTaken (base : Base) (old : TallyState) (posted : Seen) (sent : List Message)
     (passes : List PassState) (new : TallyState) (now : Seen) (after : List Message)
     : Type 0 where
@@ -36,7 +36,8 @@ pub record AreTaken (base : Base) (old : TallyState) (posted : Seen) (sent : Lis
   pub seen : All (λ (p : PassState). p.seen.receipt.number ≤ posted.receipt.number) passes
   pub marked : All (λ (p : PassState). p.marked ≡ true → posted.broken ≡ true) passes
   pub sent_is : after ≡ sent
-  pub lasts : All (λ (p : PassState). IsLastHanded base (entries_of sent) p.last) passes
+  pub counted : All (λ (p : PassState). length p.changes ≡ p.share) passes
+  pub changes : All (λ (p : PassState). AreHanded base (entries_of sent) p.changes) passes
 
 -- ---- images
 
@@ -64,8 +65,10 @@ pub record LeavesBeginning (base : Base) (handed committed : ℕ) (contents : Li
   pub follow : AllFollow base.sizes base.rows base.number all
   pub images : EachImage contents unsynced (ShowsBeginning base all committed)
 
--- The last change of each of these passes is among those commands, at its number.
-pub record HoldsLasts (base : Base) (handed committed : ℕ) (passes : List PassState)
+-- All changes of each of these passes, as many as its share says, are among those commands, each at
+-- its number.
+pub record HoldsChanges (base : Base) (handed committed : ℕ) (passes : List PassState)
     (contents : List ℕ) (unsynced : Unsynced) : Type 0 where
   pub leaves : LeavesBeginning base handed committed contents unsynced
-  pub lasts : All (λ (p : PassState). IsLastHanded base leaves.all p.last) passes
+  pub counted : All (λ (p : PassState). length p.changes ≡ p.share) passes
+  pub changes : All (λ (p : PassState). AreHanded base leaves.all p.changes) passes

@@ -102,7 +102,23 @@ pub record IsEnded {D : Type 0} (base : Base) (failed : ℕ) (failures : D → �
   pub later : failed ≤ failures e.committer.disk
   pub cause : e.committer.broken ≡ true → failed < failures e.committer.disk
 
+-- more was received, and nothing else happened
+pub record OnlyReceives {D : Type 0} (old new : FlushingState D) : Type 0 where
+  pub same : new.committer ≡ old.committer
+  pub posted : new.posted ≡ old.posted
+  pub more : List Message
+  pub received : new.received ≡ old.received ++ more
+
 -- the disk once a group was stored, or the device failed
 abbrev pub disk_after : {D : Type 0} → Result (FlushingState D) (EndedState D) → D
 disk_after (Ok f) = f.committer.disk
 disk_after (Err e) = e.committer.disk
+
+-- what was received by then, and the number on the Board
+abbrev pub received_after : {D : Type 0} → Result (FlushingState D) (EndedState D) → List Message
+received_after (Ok f) = f.received
+received_after (Err e) = e.received
+
+abbrev pub posted_after : {D : Type 0} → Result (FlushingState D) (EndedState D) → ℕ
+posted_after (Ok f) = f.posted.receipt.number
+posted_after (Err e) = e.posted.receipt.number

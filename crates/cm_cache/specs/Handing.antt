@@ -1,6 +1,7 @@
 -- What is accepted is sent at once: how the accepted cache matches what was sent.
 use Rattle.std.specs.Prelude.{◌≡◌, ℕ, ◌+◌, ◌||◌, nat_le, if◌then◌else◌, true, List, [], ◌∷◌, ◌++◌}
-use Rattle.std.specs.Prelude.{length, Option, Some, None, Ok, refl}
+use Rattle.std.specs.Prelude.{length, Some, None, Ok, refl}
+use Rattle.std.specs.List.{All}
 use Rattle.std.specs.Coded.{Coded, code_by, coded×, codes}
 use Rattle.cm_layout.specs.declared.row.Row.{Row}
 use Rattle.cm_group.specs.Groups.{Carried, Handed, IsGroup}
@@ -8,8 +9,8 @@ use Rattle.cm_state.specs.Step.{Change}
 use Rattle.cm_state.specs.State.{words_show}
 use Rattle.cm_state.specs.Entries.{AreCacheRows, change_of}
 use Rattle.cm_commit.specs.Offers.{filled, rows_after_group}
-use Rattle.cm_front.specs.Front.{FrontState, IsFront, front_code}
-use Rattle.cm_front.specs.Accepting.{FrontAnswers, HandsOut, with_learnt}
+use Rattle.cm_front.specs.Front.{FrontState, IsFront, first_refusal, front_code}
+use Rattle.cm_front.specs.Accepting.{FrontAnswers, HandsOut, HasNoChunk, with_learnt}
 use Rattle.cm_handover.specs.Ahead.{IsAhead}
 use Rattle.cm_cache.specs.declared.board_view.Seen.{Seen}
 use Rattle.cm_cache.specs.declared.channel.Base.{Base}
@@ -78,6 +79,12 @@ abbrev pub with_seen : FrontState → Seen → FrontState
 with_seen s seen =
     with_receipt (record s { broken = seen.broken || s.broken }) seen.receipt.number
 
+-- the cache has no refusal for the change, and this is the next number
+pub record MayAccept (s : FrontState) (change : Change (List ℕ)) (n : ℕ) : Type 0 where
+  pub none : first_refusal s change ≡ None
+  pub room : ¬ HasNoChunk s change
+  pub number : n ≡ s.number + 1
+
 -- A change is accepted with this number and handed out by itself.
 pub record TakesOut (s : FrontState) (change : Change (List ℕ)) (n : ℕ) (group : Handed)
     (new : FrontState) : Type 0 where
@@ -112,14 +119,7 @@ pub record IsHanded (base : Base) (all : List Carried) (change : Change (List �
   pub change_is : change_of (rows_after_group base.rows before) (filled entry) ≡ Some change
   pub number_is : n ≡ base.number + length before + 1
 
--- the last change of a pass is among all entries that were sent, at its number
-abbrev pub IsLastHanded : Base → List Carried → Option (Change (List ℕ) × ℕ) → Type 0
-IsLastHanded base all None = Unit {0}
-IsLastHanded base all (Some last) = IsHanded base all last.0 last.1
-
--- the last message that a witness shows is the last change of a pass
-abbrev pub IsShown : Base → Option (Change (List ℕ) × ℕ) → Option (List Message) → Type 0
-IsShown base None shown = Unit {0}
-IsShown base (Some last) None = ⊥
-IsShown base (Some last) (Some sent) =
-    (before : List Message) × HandsOver base before last.0 last.1 sent
+-- each of these changes is among all entries that were sent, at its number
+abbrev pub AreHanded : Base → List Carried → List (Change (List ℕ) × ℕ) → Type 0
+AreHanded base all changes =
+    All (λ (c : Change (List ℕ) × ℕ). IsHanded base all c.0 c.1) changes

@@ -11,14 +11,15 @@ use Rattle.cm_cache.specs.Handing.{IsFresh}
 use Rattle.cm_cache.specs.Shared.{most_passes}
 use Rattle.cm_cache.specs.Flushing.{HasCommitted}
 
--- channel, Board and ledger are those that the cache is named by
-pub record Belongs (base : Base) (channel : ChannelId) (board : TableId) (name parts : ℕ)
+-- channel, Board, ledger and number of passes are those that the cache is named by
+pub record Belongs (base : Base) (channel : ChannelId) (board : TableId) (name parts passes : ℕ)
     (new : NewCache) : Type 0 where
   pub channel_is : channel_of (sends_on new.channel.sender) ≡ channel
   pub board_is : new.board.table.shared.table_id ≡ board
   pub number_is : new.board.number ≡ base.number
   pub name_is : new.ledger.name ≡ name
   pub parts_is : parts ≡ most_passes
+  pub passes_is : new.passes ≡ passes
 
 -- the accepted cache and the committer of what was opened, as they are at the start, with the count
 -- of the disk's failures

@@ -1,10 +1,12 @@
 //! The Board, on which the flusher writes how far commands are durable.
 
-ghost use Rattle.std.specs.Prelude.{◌≡◌, ◌≤◌, ◌⊎◌, ◌++◌, ◌∷◌, [], true, false, IfOk};
+ghost use Rattle.std.specs.Prelude.{◌≡◌, ◌≤◌, ◌⊎◌, ◌++◌, ◌∷◌, [], true, false, List, IfOk};
+ghost use Rattle.cm_group.specs.Groups.{Carried};
 ghost use Rattle.cm_guards.specs.Guards.{EachImage};
 ghost use Rattle.cm_cache.specs.declared.board_view.Load.TheVariants as load;
 ghost use Rattle.cm_cache.specs.Board.{poster as poster_view, ShowsFrom, looked_at};
 ghost use Rattle.cm_cache.specs.Board.{HasLookedSince};
+ghost use Rattle.cm_cache.specs.Flushing.{HasCommitted};
 
 use crate::board_rule::{
     BoardRule, Compares, Enters, Hears, PostsBroken, PostsNumber, SeesBroken, SeesNumber,
@@ -125,9 +127,11 @@ impl<K: Naming> Model for Poster<K> {
 
 impl<K: Naming> Poster<K> {
     /// Writes that all commands up to the committer's number are durable, and wakes the readers.
-    /// Whatever a crash leaves of the committer's disk from then on has them.
+    /// These are commands of this cache, and whatever a crash leaves of the committer's disk from
+    /// then on has them.
     pub fn post<R: Wait, D: Disk>(&mut self, rt: &R, board: &Board<K>, committer: &Committer<D>)
-        requires { self.old.receipt.number ≤ committer.now.number }
+        requires later { self.old.receipt.number ≤ committer.now.number }
+        requires has { (done : List Carried) × HasCommitted K.base done committer.now }
         ensures says { self.new ≡ record {
           receipt = record { number = committer.now.number };
           broken = self.old.broken;

@@ -1,16 +1,15 @@
 //! A cache that many threads use at once.
 
-ghost use Rattle.std.specs.Prelude.{◌≡◌, ◌+◌, ◌≤◌, false, None, IfOk, IfErr, IfSome};
+ghost use Rattle.std.specs.Prelude.{◌≡◌, ◌+◌, ◌≤◌, false, length, IfOk, IfSome};
 ghost use Rattle.std.specs.List.{All, sum_by};
 ghost use Rattle.std.specs.Arc.{arc_value};
 ghost use Rattle.cm_record.specs.Names.{class_name_in};
 ghost use Rattle.cm_group.specs.Groups.{IsRightRecord};
 ghost use Rattle.cm_state.specs.Step.{AddLoader, Define, Unload, Tighten, UnloadAll};
 ghost use Rattle.cm_commands.specs.Commands.{change_asked};
-ghost use Rattle.cm_commands.specs.declared.refusal.Refusal.TheVariants as refusal;
-ghost use Rattle.cm_cache.specs.Shared.{PassState, ReportsChange, most_passes};
+ghost use Rattle.cm_cache.specs.Shared.{AreNewPasses, PassState, ReportsChange, most_passes};
 ghost use Rattle.cm_cache.specs.Starting.{Belongs, MayStart};
-ghost use Rattle.cm_cache.specs.Closing.{LeavesBeginning, HoldsLasts};
+ghost use Rattle.cm_cache.specs.Closing.{LeavesBeginning, HoldsChanges};
 
 use crate::board::Board;
 use crate::flusher::Flusher;
@@ -19,8 +18,8 @@ use crate::handing::Handing;
 use crate::naming::Naming;
 use crate::new_cache::NewCache;
 use crate::shared::{Pass, Shared};
+use crate::storage::NewStorage;
 use cm_commands::{Command, Names, Prepared, Refusal};
-use cm_commit::Committer;
 use cm_disk::Disk;
 use cm_front::Front;
 use cm_record::Record;
@@ -40,7 +39,9 @@ pub struct Cache<K: Naming> {
     shared: Mutex<Shared<K>>,
     board: Arc<Board<K>>,
     opened: u64,
+    passes: u64,
     ghost opened_is: { opened ≡ K.base.number },
+    ghost passes_are: { passes ≡ K.passes },
 }
 
 /// What a cache that ran leaves.
@@ -87,48 +88,43 @@ fn share_board<K: Naming>(
 
 impl<K: Naming> Cache<K> {
     /// Starts a cache that was just opened: its flusher, in a thread of its own, takes the
-    /// committer. An `Err` drops both; the file can be opened again.
+    /// storage. Returns all passes, through each of which a thread changes the cache. An `Err`
+    /// drops front and storage; the file can be opened again.
     pub fn start<R, D>(
         rt: &R,
         alloc: Global,
         new: NewCache,
         front: Front,
-        committer: Committer<D>,
-    ) -> Result<(Cache<K>, Flusher<K, D>), AllocError>
+        storage: NewStorage<D>,
+    ) -> Result<(Cache<K>, Flusher<K, D>, Vec<Pass<K>>), AllocError>
     where
         R: Threads + Wait + Copy + Send + 'static,
         K: Send + Sync + 'static,
         D: Disk + Drop + Send + 'static,
-        requires new { Belongs K.base K.channel K.board K.name K.parts new }
-        requires opened { MayStart K.base K.failed D.view.failures front committer }
+        requires new { Belongs K.base K.channel K.board K.name K.parts K.passes new }
+        requires opened { MayStart K.base K.failed D.view.failures front storage }
+        ensures { IfOk result (λ r. AreNewPasses K.passes r.2.items) }
     {
         let NewCache {
             channel,
             board,
             ledger,
+            passes: count,
         } = new;
         let opened = board.number;
         let (outgoing, incoming) = channel.named::<K>();
         let (board, poster) = board.named::<K>();
-        let shared = Shared::new(Handing::new(front, outgoing), ledger);
-        let flushing = Flushing::new(committer, incoming, poster);
+        let handing = Handing::new(front, outgoing);
+        let (shared, passes) = Shared::new(alloc, handing, ledger, &board, count)?;
+        let flushing = Flushing::new(storage.named::<K>(), incoming, poster);
         let (board, flusher) = start_flusher(rt, alloc, flushing, board)?;
         let cache = Cache {
             shared: Mutex::new(shared),
             board,
             opened,
+            passes: count,
         };
-        Ok((cache, flusher))
-    }
-
-    /// A new pass, through which a thread changes the cache. `NumbersSpent` if 65,536 were given
-    /// out. Waits for the lock.
-    pub fn pass<R: Wait>(&self, rt: &R) -> Result<Pass<K>, Refusal>
-        ensures ok { IfOk result
-            (λ p. (p.share ≡ 0) × (p.marked ≡ false) × (p.last ≡ None)) }
-        ensures err { IfErr result (λ r. r ≡ refusal.NumbersSpent) }
-    {
-        self.shared.lock(rt).pass(&self.board)
+        Ok((cache, flusher, passes))
     }
 
     /// Makes a loader of this name, without classes.
@@ -254,13 +250,14 @@ impl<K: Naming> Cache<K> {
         requires parts { K.parts ≡ most_passes }
         ensures order { result.committed ≤ result.handed }
         ensures shares { result.of_passes ≡ sum_by (λ (p : PassState). p.share) passes.items }
+        ensures missing { result.missing + length passes.items ≡ K.passes }
         ensures passes { result.missing ≡ 0 → result.of_passes ≡ result.handed }
         ensures counted { result.of_passes ≤ result.handed }
         ensures receipts { All (λ (p : PassState).
             p.seen.receipt.number ≤ K.base.number + result.committed) passes.items }
         ensures images { LeavesBeginning K.base result.handed result.committed
             (D.view.contents result.disk) (D.view.unsynced result.disk) }
-        ensures lasts { HoldsLasts K.base result.handed result.committed passes.items
+        ensures changes { HoldsChanges K.base result.handed result.committed passes.items
             (D.view.contents result.disk) (D.view.unsynced result.disk) }
         ensures whole { D.view.failures result.disk ≡ K.failed
             → (result.committed ≡ result.handed)
@@ -270,8 +267,9 @@ impl<K: Naming> Cache<K> {
             shared,
             board,
             opened,
+            passes: count,
         } = self;
-        let (outgoing, mut tally) = shared.into_inner().finish(rt, opened);
+        let (outgoing, mut tally) = shared.into_inner().finish(rt, opened, count);
         let (number, mut poster, mut settled, disk) = flusher.join(rt).leave(outgoing);
         tally.take_all(&mut poster, &board, &mut settled, passes);
         let (handed, missing, of_passes) = tally.count();

@@ -5,7 +5,7 @@ ghost use Rattle.std.specs.Prelude.{IfNone};
 ghost use Rattle.crossbeam_channel.specs.Claims.{IsSeatAt};
 ghost use Rattle.crossbeam_channel.specs.Ends.{sends_on, receives_on};
 ghost use Rattle.cm_cache.specs.Channel.{both_ends, channel_of, entries_of, is_open, known_to};
-ghost use Rattle.cm_cache.specs.Channel.{no_base, InOrder, MayBeSent};
+ghost use Rattle.cm_cache.specs.Channel.{no_base, shown_by, InOrder, MayBeSent};
 
 use crate::channel::{ChannelView, Message};
 use crate::channel_rule::{
@@ -77,12 +77,11 @@ pub struct Outgoing<K: Naming> {
 }
 
 impl<K: Naming> Model for Outgoing<K> {
-    ghost use Rattle.std.specs.Prelude.{◌≡◌, List};
+    ghost use Rattle.std.specs.Prelude.{◌≡◌, true, List};
     ghost use Rattle.crossbeam_channel.specs.Claims.{IsSeatAt};
     ghost use Rattle.crossbeam_channel.specs.Ends.{sends_on};
     ghost use Rattle.cm_cache.specs.declared.channel.Message.{Message};
     ghost use Rattle.cm_cache.specs.Channel.{known_to, channel_of};
-    ghost use Rattle.cm_cache.specs.Channel.{sender as sender_view};
 
     ghost Value = { List Message };
 
@@ -90,7 +89,7 @@ impl<K: Naming> Model for Outgoing<K> {
 
     ghost invariant = { λ o.
         IsSeatAt (sends_on o.sender) o.pass × (channel_of (sends_on o.sender) ≡ K.channel)
-        × (known_to o.pass ≡ sender_view K.base (known_to o.pass).sent) };
+        × ((known_to o.pass).sends ≡ true) × ((known_to o.pass).base ≡ K.base) };
 }
 
 /// The end that receives. Contracts describe it by all that was received, oldest first.
@@ -145,25 +144,16 @@ impl<K: Naming> Model for Witness<K> {
 /// that was sent, oldest first.
 #[derive(Drop)]
 pub struct Settled<K: Naming> {
-    sender: RuledSender<Message, ChannelView, ChannelRule>,
-    pass: Pass<Message, ChannelView>,
-    of: PhantomData<K>,
+    outgoing: Outgoing<K>,
 }
 
 impl<K: Naming> Model for Settled<K> {
-    ghost use Rattle.std.specs.Prelude.{◌≡◌, true, List};
-    ghost use Rattle.crossbeam_channel.specs.Claims.{IsSeatAt};
-    ghost use Rattle.crossbeam_channel.specs.Ends.{sends_on};
+    ghost use Rattle.std.specs.Prelude.{List};
     ghost use Rattle.cm_cache.specs.declared.channel.Message.{Message};
-    ghost use Rattle.cm_cache.specs.Channel.{known_to, channel_of};
 
     ghost Value = { List Message };
 
-    ghost view = { λ s. (known_to s.pass).sent };
-
-    ghost invariant = { λ s.
-        IsSeatAt (sends_on s.sender) s.pass × (channel_of (sends_on s.sender) ≡ K.channel)
-        × ((known_to s.pass).sends ≡ true) };
+    ghost view = { λ s. s.outgoing };
 }
 
 impl<K: Naming> Outgoing<K> {
@@ -185,6 +175,26 @@ impl<K: Naming> Outgoing<K> {
             pass,
             of: PhantomData,
         }
+    }
+
+    /// Shows that what a witness knows, if there is one, is a beginning of what was sent.
+    pub fn hear(&mut self, witness: Option<Witness<K>>)
+        ensures same { self.new ≡ self.old }
+        ensures known { (rest : List Message) × (self.old ≡ shown_by witness ++ rest) }
+    {
+        match witness {
+            Some(witness) => self.hear_one(witness),
+            None => {}
+        }
+    }
+
+    fn hear_one(&mut self, witness: Witness<K>)
+        ensures same { self.new ≡ self.old }
+        ensures known { (rest : List Message) × (self.old ≡ witness ++ rest) }
+    {
+        let Witness { pass, .. } = witness;
+        self.sender.absorb::<Witnessing>(&mut self.pass, pass);
+        self.sender.learn_as::<Beginning>(&mut self.pass);
     }
 
     /// Sends a message: a group that continues those that were sent, or the End, after which
@@ -234,22 +244,22 @@ impl<K: Naming> Outgoing<K> {
         sender.absorb::<Roles<K>>(&mut pass, other);
         sender.learn_as::<Total>(&mut pass);
         Settled {
-            sender,
-            pass,
-            of: PhantomData,
+            outgoing: Outgoing {
+                sender,
+                pass,
+                of: PhantomData,
+            },
         }
     }
 }
 
 impl<K: Naming> Settled<K> {
     /// Shows that what a witness knows is a beginning of what was sent.
-    pub fn hear(&mut self, witness: Witness<K>)
+    pub fn hear(&mut self, witness: Option<Witness<K>>)
         ensures same { self.new ≡ self.old }
-        ensures known { (rest : List Message) × (self.old ≡ witness ++ rest) }
+        ensures known { (rest : List Message) × (self.old ≡ shown_by witness ++ rest) }
     {
-        let Witness { pass, .. } = witness;
-        self.sender.absorb::<Witnessing>(&mut self.pass, pass);
-        self.sender.learn_as::<Beginning>(&mut self.pass);
+        self.outgoing.hear(witness);
     }
 }
 

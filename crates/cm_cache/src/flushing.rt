@@ -1,11 +1,12 @@
 //! Stores what is received, group by group.
 
-ghost use Rattle.std.specs.Prelude.{◌≡◌, ◌-◌, ◌≤◌, [], true, false, None, IfErr};
+ghost use Rattle.std.specs.Prelude.{◌≡◌, ◌-◌, ◌≤◌, ◌++◌, [], true, false, None, List, IfErr};
 ghost use Rattle.cm_guards.specs.Guards.{EachImage};
 ghost use Rattle.cm_guards.specs.Calls.{LeavesOnly};
 ghost use Rattle.cm_cache.specs.Channel.{entries_of};
 ghost use Rattle.cm_cache.specs.Handing.{number_sent};
-ghost use Rattle.cm_cache.specs.Flushing.{HasCommitted, IsEnded, disk_after};
+ghost use Rattle.cm_cache.specs.Flushing.{HasCommitted, IsEnded, OnlyReceives};
+ghost use Rattle.cm_cache.specs.Flushing.{disk_after, posted_after, received_after};
 ghost use Rattle.cm_cache.specs.Closing.{ShowsBeginning, ShowsPosted};
 ghost use Rattle.cm_handover.specs.Ahead.{AllFollow};
 
@@ -13,8 +14,7 @@ use crate::board::{Board, Poster};
 use crate::channel::Message;
 use crate::ends::{Incoming, Outgoing, Settled};
 use crate::naming::Naming;
-use crate::storing::store_group;
-use cm_commit::Committer;
+use crate::storage::Storage;
 use cm_disk::Disk;
 use cm_group::Group;
 use cm_handover::groups_may_follow;
@@ -31,7 +31,7 @@ const YIELDS: u32 = 3;
 /// that wait.
 #[derive(Drop)]
 pub struct Flushing<K: Naming, D: Disk> {
-    committer: Committer<D>,
+    storage: Storage<K, D>,
     incoming: Incoming<K>,
     poster: Poster<K>,
     // the group that is stored next, and one that came after it and couldn't join it
@@ -47,10 +47,10 @@ impl<K: Naming, D: Disk> Model for Flushing<K, D> {
 
     ghost Value = { FlushingState D };
 
-    ghost view = { λ f. flushing_of f.committer f.incoming f.poster f.next f.behind f.over };
+    ghost view = { λ f. flushing_of f.storage f.incoming f.poster f.next f.behind f.over };
 
     ghost invariant = { λ f. IsFlushing K.base K.failed D.view.failures
-        (flushing_of f.committer f.incoming f.poster f.next f.behind f.over) };
+        (flushing_of f.storage f.incoming f.poster f.next f.behind f.over) };
 }
 
 /// What is left once nothing more is stored: the End was received, or the device failed.
@@ -58,7 +58,7 @@ impl<K: Naming, D: Disk> Model for Flushing<K, D> {
 /// Contracts describe it by the committer, what was received, and what the Board says.
 #[derive(Drop)]
 pub struct Ended<K: Naming, D: Disk> {
-    committer: Committer<D>,
+    storage: Storage<K, D>,
     incoming: Incoming<K>,
     poster: Poster<K>,
     over: bool,
@@ -69,27 +69,27 @@ impl<K: Naming, D: Disk> Model for Ended<K, D> {
 
     ghost Value = { EndedState D };
 
-    ghost view = { λ e. ended_of e.committer e.incoming e.poster e.over };
+    ghost view = { λ e. ended_of e.storage e.incoming e.poster e.over };
 
     ghost invariant = { λ e. IsEnded K.base K.failed D.view.failures
-        (ended_of e.committer e.incoming e.poster e.over) };
+        (ended_of e.storage e.incoming e.poster e.over) };
 }
 
 impl<K: Naming, D: Disk> Flushing<K, D> {
-    /// The flusher for a committer of what was opened, a channel over which nothing was received,
+    /// The flusher for the storage of what was opened, a channel over which nothing was received,
     /// and a Board that says so.
-    pub fn new(committer: Committer<D>, incoming: Incoming<K>, poster: Poster<K>) -> Flushing<K, D>
-        requires at { HasCommitted K.base [] committer }
-        requires sound { committer.broken ≡ false }
-        requires idle { committer.underway ≡ None }
+    pub fn new(storage: Storage<K, D>, incoming: Incoming<K>, poster: Poster<K>) -> Flushing<K, D>
+        requires at { HasCommitted K.base [] storage }
+        requires sound { storage.broken ≡ false }
+        requires idle { storage.underway ≡ None }
         requires received { incoming ≡ [] }
         requires says { poster
-            ≡ record { receipt = record { number = committer.number }; broken = false } }
-        requires later { K.failed ≤ D.view.failures committer.disk }
-        ensures { (result.committer ≡ committer) × (result.over ≡ false) }
+            ≡ record { receipt = record { number = storage.number }; broken = false } }
+        requires later { K.failed ≤ D.view.failures storage.disk }
+        ensures { (result.committer ≡ storage) × (result.over ≡ false) }
     {
         Flushing {
-            committer,
+            storage,
             incoming,
             poster,
             next: None,
@@ -101,7 +101,7 @@ impl<K: Naming, D: Disk> Flushing<K, D> {
 
     /// Takes the next group to be stored. Waits for one, unless the End came.
     fn fetch<R: Wait>(&mut self, rt: &R)
-        ensures { self.new.committer ≡ self.old.committer }
+        ensures { OnlyReceives self.old self.new }
     {
         if self.next.is_some() {
             return;
@@ -123,7 +123,7 @@ impl<K: Naming, D: Disk> Flushing<K, D> {
     /// has room. Waits for nobody, but lets those send first whose commands were just stored, if
     /// there are several: then one group takes more of them.
     fn join<R: Wait>(&mut self, rt: &R)
-        ensures { self.new.committer ≡ self.old.committer }
+        ensures { OnlyReceives self.old self.new }
     {
         if self.several {
             let_others_run();
@@ -137,7 +137,7 @@ impl<K: Naming, D: Disk> Flushing<K, D> {
 
     /// The same with one group. Returns `false` if none was joined.
     fn join_one<R: Wait>(&mut self, rt: &R) -> bool
-        ensures { self.new.committer ≡ self.old.committer }
+        ensures { OnlyReceives self.old self.new }
     {
         groups_may_follow();
         if self.over || self.behind.is_some() {
@@ -178,13 +178,15 @@ impl<K: Naming, D: Disk> Flushing<K, D> {
     /// the moments between two calls.
     pub fn store<R: Wait>(self, rt: &R, board: &Board<K>) -> Result<Flushing<K, D>, Ended<K, D>>
         ensures broken { IfErr result (λ e. e.committer.broken ≡ true) }
+        ensures received { received_after result ≡ self.received }
+        ensures later { self.posted.receipt.number ≤ posted_after result }
         ensures any_moment { LeavesOnly D.view self.committer.disk (disk_after result)
             (ShowsPosted K.base self.received self.posted) }
     {
         groups_may_follow();
         self.images();
         let Flushing {
-            mut committer,
+            mut storage,
             incoming,
             mut poster,
             next,
@@ -194,7 +196,7 @@ impl<K: Naming, D: Disk> Flushing<K, D> {
         } = self;
         let Some(group) = next else {
             return Ok(Flushing {
-                committer,
+                storage,
                 incoming,
                 poster,
                 next: None,
@@ -204,11 +206,11 @@ impl<K: Naming, D: Disk> Flushing<K, D> {
             });
         };
         let several = group.count() > 1;
-        match store_group(&mut committer, group) {
+        match storage.store_next(group) {
             Some(_) => {
-                poster.post(rt, board, &committer);
+                poster.post(rt, board, storage.committer());
                 Ok(Flushing {
-                    committer,
+                    storage,
                     incoming,
                     poster,
                     next: None,
@@ -221,7 +223,7 @@ impl<K: Naming, D: Disk> Flushing<K, D> {
                 poster.post_broken(rt, board);
                 drop(behind);
                 Err(Ended {
-                    committer,
+                    storage,
                     incoming,
                     poster,
                     over,
@@ -237,7 +239,7 @@ impl<K: Naming, D: Disk> Flushing<K, D> {
             (D.view.unsynced self.now.committer.disk)
             (ShowsPosted K.base self.now.received self.now.posted) }
     {
-        self.committer.images();
+        self.storage.committer().images();
     }
 
     /// Whether the End came and all that was received is durable.
@@ -252,10 +254,12 @@ impl<K: Naming, D: Disk> Flushing<K, D> {
     fn end(self) -> Ended<K, D>
         requires over { self.over ≡ true }
         requires none { (self.next ≡ None) × (self.behind ≡ None) }
-        ensures { result.over ≡ true }
+        ensures over { result.over ≡ true }
+        ensures committer { result.committer ≡ self.committer }
+        ensures received { result.received ≡ self.received }
     {
         let Flushing {
-            committer,
+            storage,
             incoming,
             poster,
             next,
@@ -266,7 +270,7 @@ impl<K: Naming, D: Disk> Flushing<K, D> {
         drop(next);
         drop(behind);
         Ended {
-            committer,
+            storage,
             incoming,
             poster,
             over,
@@ -275,10 +279,17 @@ impl<K: Naming, D: Disk> Flushing<K, D> {
 
     /// Stores all that is received, until the End is received; after a failure of the device it
     /// only receives. Waits for what is sent.
+    ///
+    /// At each moment of the call a crash leaves what was opened with a beginning of what is
+    /// received by its end, with all commands that the Board said are durable when it began. For
+    /// each group that it stores, [`Flushing::store`] says so of what the Board says then.
     pub fn run<R: Wait>(self, rt: &R, board: &Board<K>) -> Ended<K, D>
-        ensures { result.over ≡ true }
+        ensures over { result.over ≡ true }
+        ensures any_moment { LeavesOnly D.view self.committer.disk result.committer.disk
+            (ShowsPosted K.base result.received self.posted) }
     {
         let mut flushing = self;
+        flushing.images();
         for _ in rt.forever() {
             flushing.fetch(rt);
             if flushing.is_done() {
@@ -307,7 +318,10 @@ impl<K: Naming, D: Disk> Ended<K, D> {
     /// Receives and drops, until the End is received.
     fn drain<R: Wait>(&mut self, rt: &R)
         requires { self.old.committer.broken ≡ true }
-        ensures { self.new.over ≡ true }
+        ensures over { self.new.over ≡ true }
+        ensures committer { self.new.committer ≡ self.old.committer }
+        ensures received { (more : List Message)
+            × (self.new.received ≡ self.old.received ++ more) }
     {
         for _ in rt.forever() {
             if self.is_over() {
@@ -327,7 +341,9 @@ impl<K: Naming, D: Disk> Ended<K, D> {
     fn drop_one<R: Wait>(&mut self, rt: &R)
         requires broken { self.old.committer.broken ≡ true }
         requires going { self.old.over ≡ false }
-        ensures { self.new.committer ≡ self.old.committer }
+        ensures committer { self.new.committer ≡ self.old.committer }
+        ensures received { (more : List Message)
+            × (self.new.received ≡ self.old.received ++ more) }
     {
         match self.incoming.receive(rt) {
             Message::Group(group) => drop(group),
@@ -351,15 +367,17 @@ impl<K: Naming, D: Disk> Ended<K, D> {
             → (result.0 ≡ number_sent K.base outgoing) × (result.1.broken ≡ false) }
     {
         let Ended {
-            committer,
+            storage,
             incoming,
             poster,
             ..
         } = self;
         let settled = outgoing.settle(incoming);
+        let committer = storage.committer();
         committer.images();
         let number = committer.number();
-        (number, poster, settled, committer.into_disk())
+        let disk = storage.into_disk(&settled);
+        (number, poster, settled, disk)
     }
 
     /// Does nothing: its clause says what a crash leaves now, as [`Flushing::images`] does.
@@ -368,7 +386,7 @@ impl<K: Naming, D: Disk> Ended<K, D> {
             (D.view.unsynced self.now.committer.disk)
             (ShowsPosted K.base self.now.received self.now.posted) }
     {
-        self.committer.images();
+        self.storage.committer().images();
     }
 
     /// Does nothing: its clauses say what was received and stored.

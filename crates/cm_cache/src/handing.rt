@@ -1,16 +1,16 @@
 //! The accepted cache, which sends each command that it accepts to the flusher at once.
 
-ghost use Rattle.std.specs.Prelude.{◌≡◌, ◌||◌, [], ◌∷◌, ◌++◌, true, IfOk, IfErr, OnErr};
+ghost use Rattle.std.specs.Prelude.{◌≡◌, ◌||◌, [], ◌∷◌, ◌++◌, true, List, IfOk, IfErr, OnErr};
 ghost use Rattle.cm_state.specs.State.{state_of, words_show};
 ghost use Rattle.cm_commands.specs.Commands.{change_asked};
 ghost use Rattle.cm_front.specs.Front.{IsFront};
 ghost use Rattle.cm_front.specs.Accepting.{IsReason};
 ghost use Rattle.cm_handover.specs.Ahead.{AllFollow};
 ghost use Rattle.cm_handover.specs.Folding.{LeadTo};
-ghost use Rattle.cm_cache.specs.Channel.{entries_of};
+ghost use Rattle.cm_cache.specs.Channel.{entries_of, shown_by};
 ghost use Rattle.cm_cache.specs.declared.channel.Message.TheVariants.{End};
 ghost use Rattle.cm_cache.specs.Handing.{rows_sent, number_sent, IsFresh, TakesOut, HandsOver};
-ghost use Rattle.cm_cache.specs.Handing.{IsTied};
+ghost use Rattle.cm_cache.specs.Handing.{IsTied, MayAccept};
 ghost use Rattle.cm_cache.specs.Handing.{SameMarks, with_receipt, with_seen};
 
 use crate::board_view::Seen;
@@ -92,6 +92,7 @@ impl<K: Naming> Handing<K> {
             (λ n. HandsOver K.base self.old.sent (change_asked command.entry) n self.new.sent) }
         ensures err { OnErr result (self.new ≡ self.old) }
         ensures reason { IfErr result (IsReason self.old.front (change_asked command.entry)) }
+        ensures fits { IfOk result (MayAccept self.old.front (change_asked command.entry)) }
         ensures marks { SameMarks self.old.front self.new.front }
     {
         ahead_stays_ahead();
@@ -163,6 +164,14 @@ impl<K: Naming> Handing<K> {
         ahead_stays_ahead();
         self.front.close();
         self.front.invariant_holds();
+    }
+
+    /// Shows that what a witness knows, if there is one, is a beginning of what was sent.
+    pub fn hear(&mut self, witness: Option<Witness<K>>)
+        ensures same { self.new ≡ self.old }
+        ensures known { (rest : List Message) × (self.old.sent ≡ shown_by witness ++ rest) }
+    {
+        self.outgoing.hear(witness);
     }
 
     /// Shows later what was sent by now.

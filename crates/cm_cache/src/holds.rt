@@ -2,7 +2,8 @@
 
 ghost use Rattle.std.specs.Prelude.{◌≡◌, ◌++◌, ◌∷◌, [], List};
 ghost use Rattle.std.specs.Borrow.{ftrue};
-ghost use Rattle.cm_cache.specs.Holds.{Hold, hold_of};
+ghost use Rattle.std.specs.Coded.{coded_list};
+ghost use Rattle.cm_cache.specs.Holds.{Hold, hold_code, hold_of};
 
 use crate::board_view::Seen;
 use cm_front::Front;
@@ -12,7 +13,7 @@ use std::marker::{Model, PhantomData};
 #[derive(Drop)]
 pub struct Holds {
     marker: PhantomData<u8>,
-    pub ghost all: { List Hold },
+    pub ghost all: { List Hold } by { coded_list hold_code },
 }
 
 impl Model for Holds {

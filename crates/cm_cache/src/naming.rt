@@ -25,6 +25,9 @@ pub trait Naming: Ledger {
 
     /// How many calls of the disk had failed when the cache was started.
     ghost failed: { ℕ };
+
+    /// How many passes it was started with.
+    ghost passes: { ℕ };
 }
 
 impl Naming for Brand {
@@ -35,4 +38,6 @@ impl Naming for Brand {
     ghost board = { no_table };
 
     ghost failed = { 0 };
+
+    ghost passes = { 0 };
 }

@@ -1,7 +1,7 @@
 //! What lies under the lock of a running cache, and the passes through which it is used.
 
-ghost use Rattle.std.specs.Prelude.{◌≡◌, ◌+◌, ◌<◌, ◌≤◌, ◌↔◌, [], true, false, IsOk, IfOk, IfErr};
-ghost use Rattle.std.specs.Prelude.{OnOk, OnErr, IfSome, Some, None, length};
+ghost use Rattle.std.specs.Prelude.{◌≡◌, ◌+◌, ◌≤◌, [], true, IfOk, IfErr};
+ghost use Rattle.std.specs.Prelude.{OnOk, OnErr, IfSome, length};
 ghost use Rattle.std.specs.Option.{option_map};
 ghost use Rattle.std.specs.Arc.{arc_value};
 ghost use Rattle.cm_group.specs.Groups.{IsRightRecord};
@@ -11,19 +11,20 @@ ghost use Rattle.cm_front.specs.Accepting.{IsReason};
 ghost use Rattle.cm_commands.specs.declared.refusal.Refusal.TheVariants as refusal;
 ghost use Rattle.cm_handover.specs.Ahead.{AllFollow};
 ghost use Rattle.cm_handover.specs.Folding.{LeadTo};
-ghost use Rattle.cm_cache.specs.Channel.{entries_of};
+ghost use Rattle.cm_cache.specs.Channel.{entries_of, shown_by};
 ghost use Rattle.cm_cache.specs.Handing.{rows_sent, number_sent, HandsOver, SameMarks, with_seen};
-ghost use Rattle.cm_cache.specs.Handing.{IsTied, IsShown};
+ghost use Rattle.cm_cache.specs.Handing.{AreHanded, IsTied};
 ghost use Rattle.cm_cache.specs.Board.{HasLookedSince};
-ghost use Rattle.cm_cache.specs.Holds.{hold_of, StoodAgainst};
+ghost use Rattle.cm_cache.specs.Holds.{hold_of, NothingStood, StoodAgainst};
 ghost use Rattle.cm_cache.specs.Shared.{counted, held, looked, most_passes};
+ghost use Rattle.cm_cache.specs.Shared.{IsNewPass, AreNewPasses};
 
 use crate::board::{Board, Reader};
 use crate::board_view::Seen;
+use crate::changes::Changes;
 use crate::ends::{Outgoing, Witness};
 use crate::handing::Handing;
 use crate::holds::Holds;
-use crate::last::Last;
 use crate::naming::Naming;
 use crate::tally::Tally;
 use cm_commands::{Command, Refusal};
@@ -34,13 +35,13 @@ use std::marker::Model;
 use std::sync::ledger::{Blank, Book, Share};
 use std::sync::{Arc, Wait};
 
-/// How many passes a cache gives out.
+/// With how many passes a cache may be started.
 pub const MOST_PASSES: u64 = 65_536;
 
 /// The right to change a running cache. It counts the commands that were accepted through it, and
 /// keeps what calls with it saw on the Board.
 ///
-/// Contracts describe it by these, by the last change that was accepted through it, with its
+/// Contracts describe it by these, by all changes that were accepted through it, each with its
 /// number, by all that it loaded from the Board, and by each hold of the lock.
 #[derive(Drop)]
 pub struct Pass<K: Naming> {
@@ -49,34 +50,57 @@ pub struct Pass<K: Naming> {
     reader: Reader<K>,
     seen: Seen,
     marked: bool,
-    last: Last,
-    // shows later that the last change was sent
+    changes: Changes,
+    // shows later that these changes were sent
     witness: Option<Witness<K>>,
     holds: Holds,
 }
 
 impl<K: Naming> Model for Pass<K> {
-    ghost use Rattle.std.specs.Prelude.{◌≡◌, true};
-    ghost use Rattle.cm_cache.specs.Handing.{IsShown};
-    ghost use Rattle.cm_cache.specs.Shared.{PassState};
+    ghost use Rattle.std.specs.Prelude.{◌≡◌, true, length};
+    ghost use Rattle.cm_cache.specs.Channel.{entries_of, shown_by};
+    ghost use Rattle.cm_cache.specs.Handing.{AreHanded};
+    ghost use Rattle.cm_cache.specs.Shared.{PassState, pass_code};
 
     ghost Value = { PassState };
+
+    ghost coded = { pass_code };
 
     ghost view = { λ p. record {
       share = p.count;
       seen = p.seen;
       marked = p.marked;
-      last = p.last.told;
+      changes = p.changes.all;
       loads = p.reader.loads;
       holds = p.holds.all;
     } };
 
     ghost invariant = { λ p.
         (p.share.parts ≡ 1) × (p.share.amount ≡ p.count) × (p.reader.seen ≡ p.seen)
-        × (p.marked ≡ true → p.seen.broken ≡ true) × IsShown K.base p.last.told p.witness };
+        × (p.marked ≡ true → p.seen.broken ≡ true) × (length p.changes.all ≡ p.count)
+        × AreHanded K.base (entries_of (shown_by p.witness)) p.changes.all };
 }
 
 impl<K: Naming> Pass<K> {
+    // A new pass, with a part of the book.
+    fn new(share: Share<K>, board: &Board<K>) -> Pass<K>
+        requires { (share.parts ≡ 1) × (share.amount ≡ 0) }
+        ensures { IsNewPass result }
+    {
+        let mut reader = board.reader();
+        let seen = reader.look(board);
+        Pass {
+            share,
+            count: 0,
+            reader,
+            seen,
+            marked: false,
+            changes: Changes::none(),
+            witness: None,
+            holds: Holds::none(),
+        }
+    }
+
     /// How many commands were accepted through it.
     pub fn share(&self) -> u64
         ensures { result ≡ self.now.share }
@@ -120,7 +144,7 @@ impl<K: Naming> Pass<K> {
             ((number ≤ self.new.seen.receipt.number) × (self.new.marked ≡ self.old.marked)) }
         ensures err { IfErr result
             (λ r. (r ≡ refusal.Unsure number) × (self.new.marked ≡ true)) }
-        ensures kept { (self.new.share ≡ self.old.share) × (self.new.last ≡ self.old.last) }
+        ensures kept { (self.new.share ≡ self.old.share) × (self.new.changes ≡ self.old.changes) }
         ensures holds { self.new.holds ≡ self.old.holds }
         ensures looked { HasLookedSince self.old.loads self.new.seen self.new.loads }
         ensures later { self.old.seen.receipt.number ≤ self.new.seen.receipt.number }
@@ -133,23 +157,15 @@ impl<K: Naming> Pass<K> {
         Err(Refusal::Unsure(number))
     }
 
-    // Keeps the last change that was accepted through it, with the witness that it was sent.
-    fn keep(&mut self, last: Last, witness: Witness<K>)
-        requires { IsShown K.base last.told (Some witness) }
-        ensures { self.new ≡ record self.old { last = last.told } }
-    {
-        self.last = last;
-        self.witness = Some(witness);
-    }
-
     // Takes it apart: its share of the book, how many commands that is, its reader of the Board,
-    // and the witness of its last change.
+    // and the witness of its changes.
     pub(crate) fn into_parts(self) -> (Share<K>, u64, Reader<K>, Option<Witness<K>>)
         ensures share { (result.0.parts ≡ 1) × (result.0.amount ≡ self.share) }
         ensures count { result.1 ≡ self.share }
         ensures reader { result.2.seen ≡ self.seen }
         ensures marked { self.marked ≡ true → self.seen.broken ≡ true }
-        ensures shown { IsShown K.base self.last result.3 }
+        ensures counted { length self.changes ≡ self.share }
+        ensures shown { AreHanded K.base (entries_of (shown_by result.3)) self.changes }
     {
         let Pass {
             share,
@@ -163,48 +179,57 @@ impl<K: Naming> Pass<K> {
 }
 
 /// What lies under the lock: the accepted cache, which sends what it accepts, and the book of what
-/// was accepted through all passes. Contracts describe it by the cache, all that was sent, and how
-/// many passes were given out.
+/// was accepted through all passes, with the part of it that no pass has. Contracts describe it by
+/// the cache and all that was sent.
 #[derive(Drop)]
 pub struct Shared<K: Naming> {
     handing: Handing<K>,
     book: Book<K>,
     rest: Share<K>,
-    made: u64,
 }
 
 impl<K: Naming> Model for Shared<K> {
     ghost use Rattle.std.specs.Prelude.{◌≡◌, ◌+◌, length};
     ghost use Rattle.cm_cache.specs.Channel.{entries_of};
-    ghost use Rattle.cm_cache.specs.Shared.{SharedState, shared_code, most_passes};
+    ghost use Rattle.cm_cache.specs.Handing.{HandingState, handing_code};
+    ghost use Rattle.cm_cache.specs.Shared.{most_passes};
 
-    ghost Value = { SharedState };
+    ghost Value = { HandingState };
 
-    ghost coded = { shared_code };
+    ghost coded = { handing_code };
 
-    ghost view = { λ s.
-        record { front = s.handing.front; sent = s.handing.sent; made = s.made } };
+    ghost view = { λ s. s.handing };
 
     ghost invariant = { λ s.
         (s.book.total ≡ length (entries_of s.handing.sent))
-        × (s.rest.parts + s.made ≡ most_passes) × (s.rest.amount ≡ 0) };
+        × (s.rest.parts + K.passes ≡ most_passes) × (s.rest.amount ≡ 0) };
 }
 
 impl<K: Naming> Shared<K> {
-    /// A cache over whose channel nothing was sent, with the new ledger that K names.
-    pub fn new(handing: Handing<K>, blank: Blank) -> Shared<K>
+    /// A cache over whose channel nothing was sent, with the new ledger that K names, and all its
+    /// passes.
+    pub fn new(
+        alloc: Global,
+        handing: Handing<K>,
+        blank: Blank,
+        board: &Board<K>,
+        passes: u64,
+    ) -> Result<(Shared<K>, Vec<Pass<K>>), AllocError>
         requires sent { handing.sent ≡ [] }
         requires name { blank.name ≡ K.name }
         requires parts { (blank.parts ≡ K.parts) × (K.parts ≡ most_passes) }
-        ensures { result ≡ record { front = handing.front; sent = []; made = 0 } }
+        requires passes { (passes ≡ K.passes) × (K.passes ≤ most_passes) }
+        ensures shared { IfOk result (λ r. r.0 ≡ handing) }
+        ensures passes { IfOk result (λ r. AreNewPasses K.passes r.1.items) }
     {
-        let (book, rest) = blank.open::<K>();
-        Shared {
+        let (book, mut rest) = blank.open::<K>();
+        let passes = new_passes(alloc, &mut rest, board, passes)?;
+        let shared = Shared {
             handing,
             book,
             rest,
-            made: 0,
-        }
+        };
+        Ok((shared, passes))
     }
 
     /// The accepted cache. Its rows are those after all that was sent.
@@ -220,7 +245,7 @@ impl<K: Naming> Shared<K> {
     /// cache has learnt to be durable, followed by the entries by which it is ahead of that: no
     /// chunk has a free word that the rows use after any of these.
     pub fn state(&self)
-        ensures { IsTied K.base (record { front = self.now.front; sent = self.now.sent }) }
+        ensures { IsTied K.base self.now }
     {
         self.handing.state();
     }
@@ -262,34 +287,6 @@ impl<K: Naming> Shared<K> {
         self.handing.close();
     }
 
-    /// A new pass. `NumbersSpent` if 65,536 were given out, and then nothing is changed.
-    pub fn pass(&mut self, board: &Board<K>) -> Result<Pass<K>, Refusal>
-        ensures room { IsOk result ↔ (self.old.made < most_passes) }
-        ensures ok { IfOk result
-            (λ p. (p.share ≡ 0) × (p.marked ≡ false) × (p.last ≡ None)
-            × (self.new ≡ record self.old { made = self.old.made + 1 })) }
-        ensures err { OnErr result (self.new ≡ self.old) }
-        ensures refusal { IfErr result (λ r. r ≡ refusal.NumbersSpent) }
-    {
-        if self.made >= MOST_PASSES {
-            return Err(Refusal::NumbersSpent);
-        }
-        let share = self.rest.split_off(1, 0);
-        self.made += 1;
-        let mut reader = board.reader();
-        let seen = reader.look(board);
-        Ok(Pass {
-            share,
-            count: 0,
-            reader,
-            seen,
-            marked: false,
-            last: Last::none(),
-            witness: None,
-            holds: Holds::none(),
-        })
-    }
-
     /// What a changing call does while it holds the lock: it learns what was seen on the Board,
     /// accepts the command and sends it, and does nothing else. A refused command is dropped, and
     /// only what was seen stays. Waits while the channel is full.
@@ -312,21 +309,24 @@ impl<K: Naming> Shared<K> {
         ensures reason { IfErr result (IsReason self.new.front (change_asked command.entry)) }
         ensures stood { IfErr result
             (StoodAgainst (hold_of seen self.old.front) (change_asked command.entry)) }
+        ensures fits { IfOk result
+            (NothingStood (hold_of seen self.old.front) (change_asked command.entry)) }
         ensures noticed { SameMarks (with_seen self.old.front seen) self.new.front }
-        ensures passes { self.new.made ≡ self.old.made }
     {
         self.note(pass, seen);
         self.handing.notice(seen);
         self.book.audit(&mut pass.share);
         let next = self.handing.front().number() + 1;
-        let last = Last::of(&command, &next);
+        let changes = pass.changes.one_more(&command, &next);
         let number = match self.handing.hand_over(rt, command) {
             Ok(number) => number,
             Err(refusal) => return Err(refusal),
         };
         self.book.add(&mut pass.share, 1);
         pass.count += 1;
-        pass.keep(last, self.handing.witness());
+        self.handing.hear(pass.witness.take());
+        pass.changes = changes;
+        pass.witness = Some(self.handing.witness());
         Ok(number)
     }
 
@@ -338,11 +338,12 @@ impl<K: Naming> Shared<K> {
     }
 
     /// Sends the End, and drops the accepted cache. What stays is the channel's end, and the tally,
-    /// to which the passes come back. Waits while the channel is full.
-    pub(crate) fn finish<R: Wait>(self, rt: &R, opened: u64) -> (Outgoing<K>, Tally<K>)
+    /// to which `passes` passes come back. Waits while the channel is full.
+    pub(crate) fn finish<R: Wait>(self, rt: &R, opened: u64, passes: u64) -> (Outgoing<K>, Tally<K>)
         requires opened { opened ≡ K.base.number }
+        requires passes { passes ≡ K.passes }
         ensures handed { result.1.handed ≡ length (entries_of result.0) }
-        ensures missing { result.1.missing ≡ self.made }
+        ensures missing { result.1.missing ≡ K.passes }
         ensures none { result.1.of_passes ≡ 0 }
     {
         let handed = self.front().number() - opened;
@@ -350,9 +351,28 @@ impl<K: Naming> Shared<K> {
             handing,
             book,
             rest,
-            made,
         } = self;
         let outgoing = handing.finish(rt);
-        (outgoing, Tally::new(book, rest, handed, made))
+        (outgoing, Tally::new(book, rest, handed, passes))
     }
+}
+
+// As many passes as this, each with a part of the share.
+fn new_passes<K: Naming>(
+    alloc: Global,
+    share: &mut Share<K>,
+    board: &Board<K>,
+    count: u64,
+) -> Result<Vec<Pass<K>>, AllocError>
+    requires parts { count ≤ share.old.parts }
+    requires amount { share.old.amount ≡ 0 }
+    ensures passes { IfOk result (λ v. AreNewPasses count v.items) }
+    ensures parts { OnOk result (share.new.parts + count ≡ share.old.parts) }
+    ensures amount { OnOk result (share.new.amount ≡ 0) }
+{
+    let mut passes = Vec::new(alloc);
+    while (passes.len() as u64) < count {
+        passes.push(Pass::new(share.split_off(1, 0), board))?;
+    }
+    Ok(passes)
 }

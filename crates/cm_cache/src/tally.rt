@@ -1,14 +1,13 @@
 //! Counts what was accepted, as the passes come back.
 
-ghost use Rattle.std.specs.Prelude.{◌≡◌, ◌+◌, ◌≤◌, ℕ, true, List, Option};
-ghost use Rattle.cm_state.specs.Step.{Change};
+ghost use Rattle.std.specs.Prelude.{◌≡◌, ◌+◌, ◌≤◌, true, length};
 ghost use Rattle.cm_cache.specs.Shared.{most_passes};
 ghost use Rattle.cm_cache.specs.Channel.{entries_of};
-ghost use Rattle.cm_cache.specs.Handing.{IsLastHanded, IsShown};
+ghost use Rattle.cm_cache.specs.Handing.{AreHanded};
 ghost use Rattle.cm_cache.specs.Closing.{AreTaken};
 
 use crate::board::{Board, Poster};
-use crate::ends::{Settled, Witness};
+use crate::ends::Settled;
 use crate::naming::Naming;
 use crate::shared::Pass;
 use std::marker::Model;
@@ -59,7 +58,7 @@ impl<K: Naming> Tally<K> {
     }
 
     /// Counts the commands of a pass that comes back, and shows that it has seen no more than what
-    /// the Board says, and that its last change was sent.
+    /// the Board says, and that all its changes were sent.
     fn take(
         &mut self,
         poster: &mut Poster<K>,
@@ -75,12 +74,13 @@ impl<K: Naming> Tally<K> {
         ensures seen { pass.seen.receipt.number ≤ poster.old.receipt.number }
         ensures marked { pass.marked ≡ true → poster.old.broken ≡ true }
         ensures settled { settled.new ≡ settled.old }
-        ensures last { IsLastHanded K.base (entries_of settled.old) pass.last }
+        ensures counted { length pass.changes ≡ pass.share }
+        ensures changes { AreHanded K.base (entries_of settled.old) pass.changes }
     {
         let (share, count, reader, witness) = pass.into_parts();
         self.add(share, count);
         poster.compare(board, reader);
-        hear(settled, witness);
+        settled.hear(witness);
     }
 
     fn add(&mut self, share: Share<K>, count: u64)
@@ -126,17 +126,5 @@ impl<K: Naming> Tally<K> {
     {
         self.book.audit(&mut self.all);
         (self.handed, self.missing, self.of_passes)
-    }
-}
-
-// Shows that the last change of a pass was sent.
-fn hear<K: Naming>(settled: &mut Settled<K>, witness: Option<Witness<K>>)
-    ensures same { settled.new ≡ settled.old }
-    ensures last { (last : Option (Change (List ℕ) × ℕ)) → IsShown K.base last witness
-        → IsLastHanded K.base (entries_of settled.old) last }
-{
-    match witness {
-        Some(witness) => settled.hear(witness),
-        None => {}
     }
 }

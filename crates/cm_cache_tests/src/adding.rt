@@ -23,7 +23,7 @@ impl<R: Wait> Work<R> for Adder {
 
     ghost may_run = { λ _. Unit {0} };
 
-    ghost keeps = { λ _ _. Unit {0} };
+    ghost keeps = { λ _ _ _. Unit {0} };
 
     fn run<K: Naming>(
         self,

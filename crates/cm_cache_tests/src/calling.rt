@@ -3,8 +3,10 @@
 use crate::fused::calls_to_open;
 use crate::running::formatted;
 use cm_disk::FuseDisk;
-use cm_library::{Cache, Counts, Disk, Finished, Names, Naming, Pass, Refusal, Work, with_cache};
-use cm_samples::class;
+use cm_library::{
+    Cache, Counts, Disk, Finished, Geometry, Names, Naming, Pass, Refusal, Work, with_cache,
+};
+use cm_samples::{class, new_disk};
 use std::alloc::Global;
 use std::sync::Wait;
 use std::test::*;
@@ -83,7 +85,7 @@ impl<R: Wait> Work<R> for Calls {
 
     ghost may_run = { λ _. Unit {0} };
 
-    ghost keeps = { λ _ _. Unit {0} };
+    ghost keeps = { λ _ _ _. Unit {0} };
 
     fn run<K: Naming>(
         self,
@@ -116,7 +118,7 @@ where
         counts,
         disk: _,
     } = with_cache(rt, alloc, disk, 1, Calls(calls))?;
-    Ok((counts, output??))
+    Ok((counts, output?))
 }
 
 const STOPPED: &[Call] = &[
@@ -245,6 +247,62 @@ fn several_loaders_go_at_once_or_not_at_all(rt: HostRuntime) -> Result<(), Fail>
             Answer::Number(5),
             Answer::Nothing,
             Answer::Nothing,
+        ]
+        .as_slice()
+    );
+    Ok(())
+}
+
+/// The region is eight chunks of the least size, and each loader with a class takes one at least.
+const FULL: &[Call] = &[
+    Call::AddLoader(b'a'),
+    Call::Define(b'a'),
+    Call::AddLoader(b'b'),
+    Call::Define(b'b'),
+    Call::AddLoader(b'c'),
+    Call::Define(b'c'),
+    Call::AddLoader(b'd'),
+    Call::Define(b'd'),
+    Call::AddLoader(b'e'),
+    Call::Define(b'e'),
+    Call::AddLoader(b'f'),
+    Call::Define(b'f'),
+    Call::AddLoader(b'g'),
+    Call::Define(b'g'),
+    Call::AddLoader(b'h'),
+    Call::Define(b'h'),
+    Call::AddLoader(b'i'),
+    Call::Define(b'i'),
+    Call::Find(b'i'),
+    Call::Unload(b'a'),
+    Call::Define(b'i'),
+    Call::Find(b'i'),
+];
+
+#[test]
+fn a_full_region_is_reported_as_such(rt: HostRuntime) -> Result<(), Fail> {
+    let alloc = rt.alloc();
+    let disk = new_disk(alloc, Geometry::new(3, 1, 256).ok_or("sizes")?)?;
+    let (counts, answers) = run(&rt, alloc, disk, FULL)?;
+    assert_eq!(rt;
+        counts,
+        Counts {
+            handed: 19,
+            committed: 19,
+            of_passes: 19,
+            missing: 0
+        }
+    );
+    let last = answers.as_slice().get(16..).ok_or("too few answers")?;
+    assert_eq!(rt;
+        last,
+        [
+            Answer::Number(17),
+            Answer::Refused(Refusal::RegionFull),
+            Answer::Nothing,
+            Answer::Number(18),
+            Answer::Number(19),
+            Answer::Found,
         ]
         .as_slice()
     );

@@ -40,7 +40,7 @@ impl<R: Wait> Work<R> for Definer {
 
     ghost may_run = { λ _. Unit {0} };
 
-    ghost keeps = { λ _ _. Unit {0} };
+    ghost keeps = { λ _ _ _. Unit {0} };
 
     fn run<K: Naming>(
         self,

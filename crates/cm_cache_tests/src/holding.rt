@@ -66,7 +66,7 @@ impl<R: Wait> Work<R> for Gated<'_> {
 
     ghost may_run = { λ _. Unit {0} };
 
-    ghost keeps = { λ _ _. Unit {0} };
+    ghost keeps = { λ _ _ _. Unit {0} };
 
     fn run<K: Naming>(self, rt: &R, _alloc: Global, cache: &Cache<K>, pass: &mut Pass<K>) -> bool {
         let Gated { job, gate } = self;

@@ -14,6 +14,8 @@ mod holding;
 #[cfg(test)]
 mod library;
 #[cfg(test)]
+mod ordering;
+#[cfg(test)]
 mod running;
 #[cfg(test)]
 mod two_threads;

@@ -21,7 +21,7 @@ impl<R: Wait> Work<R> for Class {
 
     ghost may_run = { λ _. Unit {0} };
 
-    ghost keeps = { λ _ _. Unit {0} };
+    ghost keeps = { λ _ _ _. Unit {0} };
 
     fn run<K: Naming>(
         self,
@@ -52,7 +52,7 @@ fn a_disk_without_a_cache_is_handed_back_with_the_work(rt: HostRuntime) -> Resul
                 disk: _,
             },
         ) => {
-            let _found = output??;
+            let _found = output?;
             Err("opened".into())
         }
         Err(error) => {
@@ -83,7 +83,7 @@ fn a_closed_cache_is_opened_again(rt: HostRuntime) -> Result<(), Fail> {
         let finished = with_cache(&rt, alloc, disk, 2, Class(b'x'))?;
         disk = finished.disk;
         let stored = if was_there { 0 } else { 2 };
-        assert_eq!(rt; finished.output??, (was_there, 16));
+        assert_eq!(rt; finished.output?, (was_there, 16));
         assert_eq!(rt;
             (finished.counts, finished.counts.unsure()),
             (
@@ -113,7 +113,7 @@ fn a_file_is_opened_again_with_what_was_stored(rt: HostRuntime) -> Result<(), Fa
             counts,
             disk: _,
         } = with_cache(&rt, alloc, disk, 1, Class(b'y'))?;
-        assert_eq!(rt; output??, (was_there, 16));
+        assert_eq!(rt; output?, (was_there, 16));
         assert_eq!(rt; counts.unsure(), 0);
     }
     let again = create_file(&rt, alloc, path);
@@ -121,46 +121,5 @@ fn a_file_is_opened_again_with_what_was_stored(rt: HostRuntime) -> Result<(), Fa
     fs::remove_file(&rt, path)?;
     let gone = open_file(&rt, path);
     assert!(rt; matches!(gone, Err(OpenError::Device(_))));
-    Ok(())
-}
-
-/// A loader of this name, added through a pass of its own, which isn't given back.
-#[derive(Drop)]
-struct KeptPass(u8);
-
-impl<R: Wait> Work<R> for KeptPass {
-    type Output = Result<u64, Fail>;
-
-    ghost may_run = { λ _. Unit {0} };
-
-    ghost keeps = { λ _ _. Unit {0} };
-
-    fn run<K: Naming>(
-        self,
-        rt: &R,
-        _alloc: Global,
-        cache: &Cache<K>,
-        _pass: &mut Pass<K>,
-    ) -> Result<u64, Fail> {
-        let KeptPass(loader) = self;
-        let mut other = cache.pass(rt)?;
-        Ok(cache.add_loader(rt, &mut other, &[loader])?)
-    }
-}
-
-#[test]
-fn a_pass_that_is_kept_is_missing(rt: HostRuntime) -> Result<(), Fail> {
-    let alloc = rt.alloc();
-    let finished = with_cache(&rt, alloc, formatted(alloc)?, 1, KeptPass(b'x'))?;
-    assert_eq!(rt; finished.output??, 1);
-    assert_eq!(rt;
-        finished.counts,
-        Counts {
-            handed: 1,
-            committed: 1,
-            of_passes: 0,
-            missing: 1,
-        }
-    );
     Ok(())
 }

@@ -1,7 +1,8 @@
 //! A channel and a Board between two threads.
-ghost use Rattle.std.specs.Prelude.{◌≡◌, ◌≤◌};
+ghost use Rattle.std.specs.Prelude.{◌≡◌, ◌≤◌, []};
 ghost use Rattle.crossbeam_channel.specs.Ends.{sends_on};
 ghost use Rattle.cm_cache.specs.Channel.{channel_of};
+ghost use Rattle.cm_cache.specs.Flushing.{HasCommitted};
 
 use crate::fused::with_loader;
 use crate::running::opened;
@@ -23,7 +24,8 @@ fn receive_all<K: Naming, R: Wait>(
     board: &Board<K>,
     committer: &Committer<SimDisk>,
 ) -> (Incoming<K>, Poster<K>)
-    requires { poster.receipt.number ≤ committer.now.number }
+    requires later { poster.receipt.number ≤ committer.now.number }
+    requires has { HasCommitted K.base [] committer.now }
 {
     for _ in rt.forever() {
         match incoming.receive(rt) {
@@ -48,6 +50,7 @@ where
     R: Threads + Wait + Copy + Send + 'static,
     requires channel { channel_of (sends_on channel.sender) ≡ K.channel }
     requires number { board.number ≤ committer.number }
+    requires has { HasCommitted K.base [] committer }
     requires board { board.table.shared.table_id ≡ K.board }
 {
     let last = committer.number();
@@ -59,7 +62,8 @@ where
     let child = thread::spawn(
         &rt,
         move || -> (Incoming<K>, Poster<K>)
-            requires { poster.receipt.number ≤ committer.number }
+            requires later { poster.receipt.number ≤ committer.number }
+            requires has { HasCommitted K.base [] committer }
         { receive_all(&rt, incoming, poster, &theirs, &committer) },
     )?;
     outgoing.send(&rt, Message::End);

@@ -201,7 +201,7 @@ impl<D: Disk> Committer<D> {
         self.group.is_some() || is_trim(self.step)
     }
 
-    /// TakesGroup a group, which [`Committer::advance`] stores from then on. This makes no device
+    /// Takes a group, which [`Committer::advance`] stores from then on. This makes no device
     /// call and allocates nothing.
     ///
     /// The group is handed back, and nothing is changed, exactly if the committer is broken or

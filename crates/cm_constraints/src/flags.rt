@@ -11,7 +11,8 @@ const ACC_PRIVATE: u16 = 0x0002;
 
 const ACC_PROTECTED: u16 = 0x0004;
 
-pub(crate) const ACC_STATIC: u16 = 0x0008;
+/// Static: of a field, a method or a nested class.
+pub const ACC_STATIC: u16 = 0x0008;
 
 const ACC_FINAL: u16 = 0x0010;
 /// For a class.
@@ -25,11 +26,14 @@ const ACC_BRIDGE: u16 = 0x0040;
 /// For a field.
 const ACC_TRANSIENT: u16 = 0x0080;
 
-pub(crate) const ACC_NATIVE: u16 = 0x0100;
+/// Native: of a method, which then has no code.
+pub const ACC_NATIVE: u16 = 0x0100;
 
-pub(crate) const ACC_INTERFACE: u16 = 0x0200;
+/// An interface, not a class.
+pub const ACC_INTERFACE: u16 = 0x0200;
 
-pub(crate) const ACC_ABSTRACT: u16 = 0x0400;
+/// Abstract: of a class, or of a method, which then has no code.
+pub const ACC_ABSTRACT: u16 = 0x0400;
 
 const ACC_STRICT: u16 = 0x0800;
 
@@ -62,7 +66,7 @@ const NOT_OF_CONSTRUCTOR: u16 = ACC_STATIC
     | ACC_ABSTRACT;
 
 /// Whether a flag, or one of several flags, is set.
-pub(crate) fn has(flags: u16, some: u16) -> bool
+pub fn has(flags: u16, some: u16) -> bool
     ensures { result ≡ has flags some }
 {
     flags & some != 0
@@ -125,7 +129,7 @@ fn interface_method_agrees(flags: u16) -> bool
 
 /// Whether a method's flags agree, in a class of these flags (JVMS 4.6).
 #[tactic(auto, unfolding(crate::specs::Flags::method_flags_agree))]
-pub(crate) fn method_flags_agree(of_class: u16, flags: u16) -> bool
+pub fn method_flags_agree(of_class: u16, flags: u16) -> bool
     ensures { result ≡ method_flags_agree of_class flags }
 {
     visibilities(flags) <= 1
@@ -134,7 +138,7 @@ pub(crate) fn method_flags_agree(of_class: u16, flags: u16) -> bool
 }
 
 /// Whether a constructor may have these flags of a method (JVMS 4.6).
-pub(crate) fn constructor_flags_agree(flags: u16) -> bool
+pub fn constructor_flags_agree(flags: u16) -> bool
     ensures { result ≡ constructor_flags_agree flags }
 {
     !has(flags, NOT_OF_CONSTRUCTOR)

@@ -21,7 +21,10 @@ pub use constants::{
     names_kinds, utf8_has_form,
 };
 pub use fields::{field_is_named, names_utf8s};
-pub use flags::{class_flags_agree, field_flags_agree};
+pub use flags::{
+    ACC_ABSTRACT, ACC_INTERFACE, ACC_NATIVE, ACC_STATIC, class_flags_agree,
+    constructor_flags_agree, field_flags_agree, has, method_flags_agree,
+};
 pub use itself::{super_is_right, this_is_no_array};
 pub use methods::{
     code_count_is_right, code_has_form, flags_fit_method, method_is_named, units_fit,

@@ -1,2 +1,7 @@
 pub mod Held
 pub mod Status
+pub mod Calls
+pub mod Class
+pub mod Cache
+pub mod Damage
+pub mod Handles

@@ -1,20 +1,19 @@
 //! A cache for C.
 
-ghost use Rattle.std.specs.Prelude.{◌≡◌, ℕ, Result, false};
+ghost use Rattle.std.specs.Prelude.{◌≡◌, IfErr, IfOk, Some, Err, pos, true, false};
+ghost use Rattle.std.specs.Arc.{arc_value};
 ghost use Rattle.cm_commands.specs.Commands.{change_asked};
-ghost use Rattle.cm_commands.specs.Machine.{Machine};
-ghost use Rattle.cm_commands.specs.declared.refusal.Refusal.{Refusal as Reason};
-ghost use Rattle.cm_session.specs.Moves.{Accepting};
-ghost use Rattle.cm_stepped.specs.Stepping.{SteppedMatches};
-ghost use Rattle.cm_core.specs.Status.{accept_status, number_told};
+ghost use Rattle.cm_core.specs.Cache.{Accepts, Changes, class_in, unshared, LooksUp, LooksIn};
+ghost use Rattle.cm_core.specs.Cache.{words_given, stats_of, TellsStats};
+ghost use Rattle.cm_core.specs.Handles.{IsUsed};
 
 use crate::handle::Handle;
 use crate::inner::Inner;
-use crate::status::{Damage, EMPTY, NO_MEMORY, NONE, OK, OLDER, of_open_fault, of_refusal};
+use crate::status::{Damage, EMPTY, NO_MEMORY, NONE, OK, of_bytes_fault, of_refusal};
 use cm_commands::{Command, Names, Prepared, Refusal};
 use cm_deferred_disk::DeferredDisk;
 use cm_record::Record;
-use cm_stepped::{BytesFault, SteppedSession, open_bytes};
+use cm_stepped::{SteppedSession, open_bytes};
 use std::alloc::Global;
 use std::sync::Arc;
 
@@ -25,21 +24,19 @@ pub extern "C" fn cmcore_open(
     bytes: &[u8],
     cache: &mut Handle,
     damage: &mut Damage,
-) -> i32 {
+) -> i32
+    ensures { result ≡ pos 0 → cache.new.full ≡ true }
+{
     match open_bytes(alloc, bytes) {
         Ok(session) => cache.fill(alloc, Inner::Cache(session)),
-        Err(BytesFault::Older) => OLDER,
-        Err(BytesFault::Fault(fault)) => of_open_fault(fault, damage),
+        Err(fault) => of_bytes_fault(fault, damage),
     }
 }
 
 // Accepts a command.
 fn accept(cache: &mut SteppedSession<DeferredDisk>, command: Command<'_>, number: &mut u64) -> i32
-    ensures { (answer : Result ℕ Reason) × ((k : Machine) → SteppedMatches k cache.old
-        → cache.old.is_broken ≡ false
-        → Accepting cache.old.session.committer.sizes k (change_asked command.entry) answer
-        (λ next. SteppedMatches next cache.new)) × (result ≡ accept_status answer)
-        × (number.new ≡ number_told number.old answer) }
+    ensures { Accepts (change_asked command.entry) cache.old cache.new result number.old
+        number.new }
 {
     match cache.accept(command) {
         Ok(accepted) => {
@@ -50,15 +47,25 @@ fn accept(cache: &mut SteppedSession<DeferredDisk>, command: Command<'_>, number
     }
 }
 
+// Accepts a command, if this is a cache.
+fn change_inner(inner: &mut Inner, command: Command<'_>, number: &mut u64) -> i32
+    ensures { Changes (change_asked command.entry) inner.old inner.new result number.old
+        number.new }
+{
+    match inner {
+        Inner::Cache(cache) => accept(cache, command, number),
+        _ => EMPTY,
+    }
+}
+
 // Accepts a command for the cache that a handle leads to.
-fn change(alloc: Global, handle: &mut Handle, command: Command<'_>, number: &mut u64) -> i32 {
+fn change(alloc: Global, handle: &mut Handle, command: Command<'_>, number: &mut u64) -> i32
+    ensures { IsUsed handle.old.full handle.new.full result }
+{
     let Some(mut inner) = handle.take(alloc) else {
         return EMPTY;
     };
-    let status = match &mut *inner {
-        Inner::Cache(cache) => accept(cache, command, number),
-        _ => EMPTY,
-    };
+    let status = change_inner(&mut inner, command, number);
     *handle = Handle::of(inner);
     status
 }
@@ -69,7 +76,9 @@ pub extern "C" fn cmcore_add_loader(
     cache: &mut Handle,
     loader: &[u8],
     number: &mut u64,
-) -> i32 {
+) -> i32
+    ensures { IsUsed cache.old.full cache.new.full result }
+{
     change(alloc, cache, Command::AddLoader(loader), number)
 }
 
@@ -79,7 +88,9 @@ pub extern "C" fn cmcore_unload(
     cache: &mut Handle,
     loader: &[u8],
     number: &mut u64,
-) -> i32 {
+) -> i32
+    ensures { IsUsed cache.old.full cache.new.full result }
+{
     change(alloc, cache, Command::Unload(loader), number)
 }
 
@@ -89,7 +100,9 @@ pub extern "C" fn cmcore_tighten(
     cache: &mut Handle,
     loader: &[u8],
     number: &mut u64,
-) -> i32 {
+) -> i32
+    ensures { IsUsed cache.old.full cache.new.full result }
+{
     change(alloc, cache, Command::Tighten(loader), number)
 }
 
@@ -99,23 +112,36 @@ pub extern "C" fn cmcore_unload_all(
     cache: &mut Handle,
     loaders: &[u8],
     number: &mut u64,
-) -> i32 {
+) -> i32
+    ensures { IsUsed cache.old.full cache.new.full result }
+{
     let command = Command::UnloadAll(Names::from_words(loaders));
     change(alloc, cache, command, number)
 }
 
-// A share of the class that a handle leads to.
-fn share(alloc: Global, handle: &mut Handle) -> Result<Prepared, i32> {
-    let Some(inner) = handle.take(alloc) else {
-        return Err(EMPTY);
-    };
-    let shared = match &*inner {
+// A share of the class, if this is one.
+fn share_class(inner: &Inner) -> Result<Prepared, i32>
+    ensures shared { IfOk result (λ class. class_in inner.now ≡ Some class) }
+    ensures status { IfErr result (λ status. status ≡ unshared (class_in inner.now)) }
+{
+    match inner {
         Inner::Prepared(class) => match class.share() {
             Ok(class) => Ok(class),
             Err(_) => Err(NO_MEMORY),
         },
         _ => Err(EMPTY),
+    }
+}
+
+// A share of the class that a handle leads to.
+fn share(alloc: Global, handle: &mut Handle) -> Result<Prepared, i32>
+    ensures full { handle.new.full ≡ handle.old.full }
+    ensures refused { handle.old.full ≡ false → result ≡ Err (pos 25) }
+{
+    let Some(inner) = handle.take(alloc) else {
+        return Err(EMPTY);
     };
+    let shared = share_class(&inner);
     *handle = Handle::of(inner);
     shared
 }
@@ -127,7 +153,10 @@ pub extern "C" fn cmcore_define(
     loader: &[u8],
     prepared: &mut Handle,
     number: &mut u64,
-) -> i32 {
+) -> i32
+    ensures prepared { IsUsed prepared.old.full prepared.new.full result }
+    ensures cache { cache.new.full ≡ cache.old.full }
+{
     match share(alloc, prepared) {
         Ok(class) => change(alloc, cache, Command::Define(loader, class), number),
         Err(status) => status,
@@ -139,13 +168,25 @@ fn look_up(
     cache: &SteppedSession<DeferredDisk>,
     loader: &[u8],
     class: &[u8],
-) -> Result<Arc<Record, Global>, i32> {
+) -> Result<Arc<Record, Global>, i32>
+    ensures { LooksUp cache.now loader.now class.now (words_given (λ r. arc_value r) result) }
+{
     match cache.find(loader, class) {
         Some(record) => match record.clone() {
             Ok(record) => Ok(record),
             Err(_) => Err(NO_MEMORY),
         },
         None => Err(NONE),
+    }
+}
+
+// A share of the record of a class, if this is a cache.
+fn look_in(inner: &Inner, loader: &[u8], class: &[u8]) -> Result<Arc<Record, Global>, i32>
+    ensures { LooksIn inner.now loader.now class.now (words_given (λ r. arc_value r) result) }
+{
+    match inner {
+        Inner::Cache(cache) => look_up(cache, loader, class),
+        _ => Err(EMPTY),
     }
 }
 
@@ -156,14 +197,14 @@ pub extern "C" fn cmcore_find(
     loader: &[u8],
     class: &[u8],
     record: &mut Handle,
-) -> i32 {
+) -> i32
+    ensures cache { IsUsed cache.old.full cache.new.full result }
+    ensures record { result ≡ pos 0 → record.new.full ≡ true }
+{
     let Some(inner) = cache.take(alloc) else {
         return EMPTY;
     };
-    let found = match &*inner {
-        Inner::Cache(session) => look_up(session, loader, class),
-        _ => Err(EMPTY),
-    };
+    let found = look_in(&inner, loader, class);
     *cache = Handle::of(inner);
     match found {
         Ok(found) => record.fill(alloc, Inner::Record(found)),
@@ -183,7 +224,10 @@ pub struct Stats {
     pub slots: u32,
 }
 
-fn tell(session: &SteppedSession<DeferredDisk>, stats: &mut Stats) {
+// What a cache says of itself.
+fn tell(session: &SteppedSession<DeferredDisk>, stats: &mut Stats)
+    ensures { stats.new ≡ stats_of session.now }
+{
     let geometry = session.geometry();
     stats.accepted = session.accepted();
     stats.stored = session.stored();
@@ -192,18 +236,27 @@ fn tell(session: &SteppedSession<DeferredDisk>, stats: &mut Stats) {
     stats.slots = geometry.slots();
 }
 
-#[unsafe(no_mangle)]
-pub extern "C" fn cmcore_get_stats(alloc: Global, cache: &mut Handle, stats: &mut Stats) -> i32 {
-    let Some(inner) = cache.take(alloc) else {
-        return EMPTY;
-    };
-    let status = match &*inner {
+// What this says of itself, if it is a cache.
+fn tell_stats(inner: &Inner, stats: &mut Stats) -> i32
+    ensures { TellsStats inner.now result stats.old stats.new }
+{
+    match inner {
         Inner::Cache(session) => {
             tell(session, stats);
             OK
         }
         _ => EMPTY,
+    }
+}
+
+#[unsafe(no_mangle)]
+pub extern "C" fn cmcore_get_stats(alloc: Global, cache: &mut Handle, stats: &mut Stats) -> i32
+    ensures { IsUsed cache.old.full cache.new.full result }
+{
+    let Some(inner) = cache.take(alloc) else {
+        return EMPTY;
     };
+    let status = tell_stats(&inner, stats);
     *cache = Handle::of(inner);
     status
 }

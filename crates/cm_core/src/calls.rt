@@ -1,14 +1,10 @@
 //! The device calls that C is to make.
 
-ghost use Rattle.std.specs.Prelude.{◌≡◌, Result, IsSome, false, true};
-ghost use Rattle.cm_deferred_disk.specs.Last.{Notes};
-ghost use Rattle.cm_device_disk.specs.DeviceDisk.{disk_view, IsDeviceCall};
-ghost use Rattle.cm_commands.specs.Machine.{Machine};
-ghost use Rattle.cm_session.specs.Moves.{ReachesMachine};
-ghost use Rattle.cm_stepped.specs.declared.step.Step.{Step as Reached};
-ghost use Rattle.cm_stepped.specs.declared.step.Broken.{Broken};
-ghost use Rattle.cm_stepped.specs.Stepping.{SteppedMatches, Steps};
-ghost use Rattle.cm_core.specs.Status.{step_status, stored_told};
+ghost use Rattle.std.specs.Prelude.{◌≡◌, option_map, pos, true};
+ghost use Rattle.cm_deferred_disk.specs.Calls.{call_of};
+ghost use Rattle.cm_core.specs.Cache.{StepsCache, StepsCalls, StepsInner};
+ghost use Rattle.cm_core.specs.Calls.{Shows, ShowsNext, asked_by};
+ghost use Rattle.cm_core.specs.Handles.{IsUsed};
 
 use crate::handle::Handle;
 use crate::inner::Inner;
@@ -40,7 +36,9 @@ pub extern "C" fn cmcore_format(
     roots: u32,
     slots: u32,
     calls: &mut Handle,
-) -> i32 {
+) -> i32
+    ensures { result ≡ pos 0 → calls.new.full ≡ true }
+{
     let Some(geometry) = Geometry::new(top, roots, slots) else {
         return BAD_SIZES;
     };
@@ -57,7 +55,9 @@ pub extern "C" fn cmcore_upgrade(
     bytes: &[u8],
     calls: &mut Handle,
     damage: &mut Damage,
-) -> i32 {
+) -> i32
+    ensures { result ≡ pos 0 → calls.new.full ≡ true }
+{
     match CallList::upgrade(alloc, bytes) {
         Ok(list) => calls.fill(alloc, Inner::Calls(list)),
         Err(fault) => of_open_fault(fault, damage),
@@ -66,11 +66,7 @@ pub extern "C" fn cmcore_upgrade(
 
 // A step of a cache. The call that it notes is what the disk's device then shows.
 fn step_cache(cache: &mut SteppedSession<DeferredDisk>, made: bool, stored: &mut u64) -> i32
-    ensures { (answer : Result Reached Broken) × ((k : Machine) → SteppedMatches k cache.old
-        → cache.old.is_broken ≡ false → (IsSome cache.old.asked → made ≡ true)
-        → ReachesMachine (Steps disk_view (IsDeviceCall Notes) k cache.old answer cache.new)
-        (λ next. SteppedMatches next cache.new)) × (result ≡ step_status answer)
-        × (stored.new ≡ stored_told stored.old answer) }
+    ensures { StepsCache made cache.old cache.new result stored.old stored.new }
 {
     match cache.step(made) {
         Ok(Step::Stored(number)) => {
@@ -82,6 +78,27 @@ fn step_cache(cache: &mut SteppedSession<DeferredDisk>, made: bool, stored: &mut
     }
 }
 
+// A step of calls that are made one after another.
+fn step_calls(calls: &mut CallList, made: bool) -> i32
+    ensures { StepsCalls made calls.old calls.new result }
+{
+    match calls.step(made) {
+        Ok(()) => OK,
+        Err(_) => BROKEN,
+    }
+}
+
+// A step of a cache or of calls.
+fn step(inner: &mut Inner, made: bool, stored: &mut u64) -> i32
+    ensures { StepsInner made inner.old inner.new result stored.old stored.new }
+{
+    match inner {
+        Inner::Cache(cache) => step_cache(cache, made, stored),
+        Inner::Calls(calls) => step_calls(calls, made),
+        _ => EMPTY,
+    }
+}
+
 /// The next step, which is told whether the call that was to be made was made.
 #[unsafe(no_mangle)]
 pub extern "C" fn cmcore_step(
@@ -89,24 +106,21 @@ pub extern "C" fn cmcore_step(
     handle: &mut Handle,
     made: bool,
     stored: &mut u64,
-) -> i32 {
+) -> i32
+    ensures { IsUsed handle.old.full handle.new.full result }
+{
     let Some(mut inner) = handle.take(alloc) else {
         return EMPTY;
     };
-    let status = match &mut *inner {
-        Inner::Cache(cache) => step_cache(cache, made, stored),
-        Inner::Calls(calls) => match calls.step(made) {
-            Ok(()) => OK,
-            Err(_) => BROKEN,
-        },
-        _ => EMPTY,
-    };
+    let status = step(&mut inner, made, stored);
     *handle = Handle::of(inner);
     status
 }
 
 // Says which call is to be made, if one is.
-fn show(noted: Option<Call<'_>>, next: &mut NextCall) {
+fn show(noted: Option<Call<'_>>, next: &mut NextCall)
+    ensures { Shows (option_map call_of noted.entry) next.new }
+{
     next.at = 0;
     next.bytes = null();
     next.len = 0;
@@ -127,27 +141,33 @@ fn show(noted: Option<Call<'_>>, next: &mut NextCall) {
 }
 
 /// The call that a cache notes, if one is to be made.
-fn noted_by(cache: &SteppedSession<DeferredDisk>) -> Option<Call<'_>> {
+fn noted_by(cache: &SteppedSession<DeferredDisk>) -> Option<Call<'_>>
+    ensures { option_map call_of result ≡ asked_by cache.now }
+{
     cache.noted()?.device().call()
+}
+
+// Says which call is to be made, of a cache or of calls.
+fn show_next(inner: &Inner, next: &mut NextCall) -> i32
+    ensures { ShowsNext inner.now result next.old next.new }
+{
+    match inner {
+        Inner::Cache(cache) => show(noted_by(cache), next),
+        Inner::Calls(calls) => show(calls.call(), next),
+        _ => return EMPTY,
+    }
+    OK
 }
 
 /// The device call that is to be made now.
 #[unsafe(no_mangle)]
-pub extern "C" fn cmcore_next_call(alloc: Global, handle: &mut Handle, next: &mut NextCall) -> i32 {
+pub extern "C" fn cmcore_next_call(alloc: Global, handle: &mut Handle, next: &mut NextCall) -> i32
+    ensures { IsUsed handle.old.full handle.new.full result }
+{
     let Some(inner) = handle.take(alloc) else {
         return EMPTY;
     };
-    let status = match &*inner {
-        Inner::Cache(cache) => {
-            show(noted_by(cache), next);
-            OK
-        }
-        Inner::Calls(calls) => {
-            show(calls.call(), next);
-            OK
-        }
-        _ => EMPTY,
-    };
+    let status = show_next(&inner, next);
     *handle = Handle::of(inner);
     status
 }

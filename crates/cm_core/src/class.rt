@@ -1,5 +1,10 @@
 //! A class that is ready to be defined, for C.
 
+ghost use Rattle.std.specs.Prelude.{◌≡◌, pos};
+ghost use Rattle.cm_commands.specs.Prepare.{refusal_for};
+ghost use Rattle.cm_commands.specs.Refusals.{refusal_number};
+ghost use Rattle.cm_core.specs.Class.{explained, fault_told, spot_kind, spot_index};
+
 use crate::handle::Handle;
 use crate::inner::Inner;
 use crate::status::of_refusal;
@@ -20,7 +25,10 @@ pub struct BadClassForC {
     pub at: u64,
 }
 
-fn spot_numbers(spot: Spot) -> (u32, u16) {
+// The kind of a spot, and the index there.
+fn spot_numbers(spot: Spot) -> (u32, u16)
+    ensures { (result.0 ≡ spot_kind spot) × (result.1 ≡ spot_index spot) }
+{
     match spot {
         Spot::Pool(index) => (1, index),
         Spot::This => (2, 0),
@@ -32,7 +40,10 @@ fn spot_numbers(spot: Spot) -> (u32, u16) {
     }
 }
 
-fn explain(bad: &BadClass, told: &mut BadClassForC) {
+// Says why a class isn't taken.
+fn explain(bad: &BadClass, told: &mut BadClassForC)
+    ensures { told.new ≡ explained bad.now }
+{
     let (kind, rule, spot, at) = match *bad {
         BadClass::Truncated => (1, 0, 0, 0),
         BadClass::Trailing(at) => (2, 0, 0, at as u64),
@@ -48,6 +59,17 @@ fn explain(bad: &BadClass, told: &mut BadClassForC) {
     told.at = at;
 }
 
+// The number for bytes that aren't prepared as a class.
+fn of_prepare_fault(fault: PrepareFault, bad: &mut BadClassForC) -> i32
+    ensures status { result ≡ pos (refusal_number (refusal_for fault)) }
+    ensures bad { bad.new ≡ fault_told bad.old fault }
+{
+    if let PrepareFault::BadClass(what) = &fault {
+        explain(what, bad);
+    }
+    of_refusal(&Refusal::from(fault))
+}
+
 /// Reads and judges a class file, and lays its record.
 #[unsafe(no_mangle)]
 pub extern "C" fn cmcore_prepare(
@@ -58,11 +80,6 @@ pub extern "C" fn cmcore_prepare(
 ) -> i32 {
     match prepare(alloc, bytes) {
         Ok(class) => prepared.fill(alloc, Inner::Prepared(class)),
-        Err(fault) => {
-            if let PrepareFault::BadClass(what) = &fault {
-                explain(what, bad);
-            }
-            of_refusal(&Refusal::from(fault))
-        }
+        Err(fault) => of_prepare_fault(fault, bad),
     }
 }

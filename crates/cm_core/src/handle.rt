@@ -1,5 +1,5 @@
 //! A handle for C.
-ghost use Rattle.std.specs.Prelude.{◌≡◌, true, false, Bool};
+ghost use Rattle.std.specs.Prelude.{◌≡◌, true, false, Bool, pos, if◌then◌else◌, is_some};
 ghost use Rattle.cm_core.specs.Held.{held, freed};
 ghost use Rattle.cm_core.specs.contracts.inner.Inner.{the_row as inner_row};
 
@@ -79,7 +79,8 @@ impl Handle {
 
     /// Takes out what it leads to, if it is full. It is empty then.
     pub(crate) fn take(&mut self, alloc: Global) -> Option<Box<Inner>>
-        ensures { self.new.full ≡ false }
+        ensures full { is_some result ≡ self.old.full }
+        ensures empty { self.new.full ≡ false }
     {
         let Handle { full, piece } = mem::replace(self, Handle::empty());
         if full {
@@ -91,7 +92,9 @@ impl Handle {
 
     /// Fills it. What it led to before is dropped. `NO_MEMORY` if the allocation fails: it is empty
     /// then.
-    pub(crate) fn fill(&mut self, alloc: Global, inner: Inner) -> i32 {
+    pub(crate) fn fill(&mut self, alloc: Global, inner: Inner) -> i32
+        ensures { result ≡ (if self.new.full then pos 0 else pos 9) }
+    {
         let _before = self.take(alloc);
         match Box::new(alloc, inner) {
             Ok(inner) => {
@@ -105,7 +108,9 @@ impl Handle {
 
 /// Empties a handle, and gives back its memory.
 #[unsafe(no_mangle)]
-pub extern "C" fn cmcore_release(alloc: Global, handle: &mut Handle) -> i32 {
+pub extern "C" fn cmcore_release(alloc: Global, handle: &mut Handle) -> i32
+    ensures { (result ≡ pos 0) × (handle.new.full ≡ false) }
+{
     let _before = handle.take(alloc);
     OK
 }

@@ -1,5 +1,12 @@
 //! The record of a class, for C.
 
+ghost use Rattle.std.specs.Prelude.{◌≡◌, IfOk, IfErr, Some, Err, length, pos, false};
+ghost use Rattle.std.specs.Arc.{arc_value};
+ghost use Rattle.cm_core.specs.Cache.{record_in, unshared};
+ghost use Rattle.cm_core.specs.Handles.{IsUsed};
+ghost use Rattle.cm_core.specs.Class.{constant_told, constant_found, found_status, member_told};
+ghost use Rattle.cm_core.specs.Class.{member_meant, code_told, told as told_of};
+
 use crate::handle::Handle;
 use crate::inner::Inner;
 use crate::places::words_at;
@@ -49,20 +56,40 @@ pub struct CodeForC {
     pub handlers_at: u32,
 }
 
-// A share of the record that a handle leads to.
-fn share_of(alloc: Global, handle: &mut Handle) -> Result<Arc<Record, Global>, i32> {
-    let Some(inner) = handle.take(alloc) else {
-        return Err(EMPTY);
-    };
-    let shared = match &*inner {
+// A share of the record, if this is one.
+fn share_record(inner: &Inner) -> Result<Arc<Record, Global>, i32>
+    ensures shared { IfOk result (λ class. record_in inner.now ≡ Some (arc_value class)) }
+    ensures status { IfErr result (λ status. status ≡ unshared (record_in inner.now)) }
+{
+    match inner {
         Inner::Record(class) => match class.clone() {
             Ok(class) => Ok(class),
             Err(_) => Err(NO_MEMORY),
         },
         _ => Err(EMPTY),
+    }
+}
+
+// A share of the record that a handle leads to.
+fn share_of(alloc: Global, handle: &mut Handle) -> Result<Arc<Record, Global>, i32>
+    ensures full { handle.new.full ≡ handle.old.full }
+    ensures refused { handle.old.full ≡ false → result ≡ Err (pos 25) }
+{
+    let Some(inner) = handle.take(alloc) else {
+        return Err(EMPTY);
     };
+    let shared = share_record(&inner);
     *handle = Handle::of(inner);
     shared
+}
+
+// Says where the words of a record are, and how many.
+fn tell_words(record: &Record, words: &mut *const u64, count: &mut usize)
+    ensures { count.new ≡ length record.now }
+{
+    let all = record.as_slice();
+    *words = words_at(all);
+    *count = all.len();
 }
 
 /// The words of a record, where they are.
@@ -72,12 +99,12 @@ pub extern "C" fn cmcore_record_words(
     record: &mut Handle,
     words: &mut *const u64,
     count: &mut usize,
-) -> i32 {
+) -> i32
+    ensures { IsUsed record.old.full record.new.full result }
+{
     match share_of(alloc, record) {
         Ok(class) => {
-            let all = class.as_slice();
-            *words = words_at(all);
-            *count = all.len();
+            tell_words(&class, words, count);
             OK
         }
         Err(status) => status,
@@ -86,7 +113,9 @@ pub extern "C" fn cmcore_record_words(
 
 /// The access flags of a class.
 #[unsafe(no_mangle)]
-pub extern "C" fn cmcore_record_flags(alloc: Global, record: &mut Handle, flags: &mut u16) -> i32 {
+pub extern "C" fn cmcore_record_flags(alloc: Global, record: &mut Handle, flags: &mut u16) -> i32
+    ensures { IsUsed record.old.full record.new.full result }
+{
     match share_of(alloc, record) {
         Ok(class) => {
             *flags = class.flags();
@@ -96,7 +125,9 @@ pub extern "C" fn cmcore_record_flags(alloc: Global, record: &mut Handle, flags:
     }
 }
 
-fn empty_constant(tag: u8) -> ConstantForC {
+fn empty_constant(tag: u8) -> ConstantForC
+    ensures { result ≡ told_of tag 0 0 0 0 0 0 }
+{
     ConstantForC {
         tag,
         kind: 0,
@@ -108,27 +139,36 @@ fn empty_constant(tag: u8) -> ConstantForC {
     }
 }
 
-fn with_value(tag: u8, value: u64) -> ConstantForC {
+fn with_value(tag: u8, value: u64) -> ConstantForC
+    ensures { result ≡ told_of tag 0 0 0 0 0 value }
+{
     let mut told = empty_constant(tag);
     told.value = value;
     told
 }
 
-fn with_indexes(tag: u8, one: u16, two: u16) -> ConstantForC {
+fn with_indexes(tag: u8, one: u16, two: u16) -> ConstantForC
+    ensures { result ≡ told_of tag 0 one two 0 0 0 }
+{
     let mut told = empty_constant(tag);
     told.one = one;
     told.two = two;
     told
 }
 
-fn with_place(tag: u8, place: Utf8Place) -> ConstantForC {
+fn with_place(tag: u8, place: Utf8Place) -> ConstantForC
+    ensures { result ≡ told_of tag 0 0 0 place.len place.at 0 }
+{
     let mut told = empty_constant(tag);
     told.at = place.at;
     told.len = place.len;
     told
 }
 
-fn in_numbers(constant: Constant<Utf8Place>) -> ConstantForC {
+// A constant in C's numbers.
+fn in_numbers(constant: Constant<Utf8Place>) -> ConstantForC
+    ensures { result ≡ constant_told constant }
+{
     match constant {
         Constant::Utf8(place) => with_place(1, place),
         Constant::Integer(bits) => with_value(3, u64::from(bits)),
@@ -163,6 +203,20 @@ fn in_numbers(constant: Constant<Utf8Place>) -> ConstantForC {
     }
 }
 
+// Says which constant was found, if one was.
+fn tell_constant(found: Option<Constant<Utf8Place>>, told: &mut ConstantForC) -> i32
+    ensures status { result ≡ found_status found }
+    ensures told { told.new ≡ constant_found told.old found }
+{
+    match found {
+        Some(constant) => {
+            *told = in_numbers(constant);
+            OK
+        }
+        None => NONE,
+    }
+}
+
 /// The constant at an index of the pool.
 #[unsafe(no_mangle)]
 pub extern "C" fn cmcore_record_constant(
@@ -170,20 +224,20 @@ pub extern "C" fn cmcore_record_constant(
     record: &mut Handle,
     index: u16,
     told: &mut ConstantForC,
-) -> i32 {
+) -> i32
+    ensures { IsUsed record.old.full record.new.full result }
+{
     match share_of(alloc, record) {
-        Ok(class) => match class.constant(index) {
-            Some(constant) => {
-                *told = in_numbers(constant);
-                OK
-            }
-            None => NONE,
-        },
+        Ok(class) => tell_constant(class.constant(index), told),
         Err(status) => status,
     }
 }
 
-fn tell_member(found: Option<Member>, told: &mut MemberForC) -> i32 {
+// Says which member was found, if one was.
+fn tell_member(found: Option<Member>, told: &mut MemberForC) -> i32
+    ensures status { result ≡ found_status found }
+    ensures told { told.new ≡ member_told told.old found }
+{
     match found {
         Some(member) => {
             told.is_method = member.is_method;
@@ -204,7 +258,9 @@ pub extern "C" fn cmcore_record_field(
     name: &[u8],
     descriptor: &[u8],
     told: &mut MemberForC,
-) -> i32 {
+) -> i32
+    ensures { IsUsed record.old.full record.new.full result }
+{
     match share_of(alloc, record) {
         Ok(class) => tell_member(class.field(name, descriptor), told),
         Err(status) => status,
@@ -219,14 +275,20 @@ pub extern "C" fn cmcore_record_method(
     name: &[u8],
     descriptor: &[u8],
     told: &mut MemberForC,
-) -> i32 {
+) -> i32
+    ensures { IsUsed record.old.full record.new.full result }
+{
     match share_of(alloc, record) {
         Ok(class) => tell_member(class.method(name, descriptor), told),
         Err(status) => status,
     }
 }
 
-fn tell_code(found: Option<Code>, told: &mut CodeForC) -> i32 {
+// Says where the code is, if there is any.
+fn tell_code(found: Option<Code>, told: &mut CodeForC) -> i32
+    ensures status { result ≡ found_status found }
+    ensures told { told.new ≡ code_told told.old found }
+{
     match found {
         Some(code) => {
             told.max_stack = code.max_stack;
@@ -241,6 +303,18 @@ fn tell_code(found: Option<Code>, told: &mut CodeForC) -> i32 {
     }
 }
 
+// The member that C means.
+fn member_of(told: &MemberForC) -> Member
+    ensures { result ≡ member_meant told.now }
+{
+    Member {
+        is_method: told.is_method,
+        index: told.index,
+        flags: told.flags,
+        attributes: told.attributes,
+    }
+}
+
 /// Where the code of a method is.
 #[unsafe(no_mangle)]
 pub extern "C" fn cmcore_record_code(
@@ -248,15 +322,11 @@ pub extern "C" fn cmcore_record_code(
     record: &mut Handle,
     method: &MemberForC,
     told: &mut CodeForC,
-) -> i32 {
-    let member = Member {
-        is_method: method.is_method,
-        index: method.index,
-        flags: method.flags,
-        attributes: method.attributes,
-    };
+) -> i32
+    ensures { IsUsed record.old.full record.new.full result }
+{
     match share_of(alloc, record) {
-        Ok(class) => tell_code(class.code(&member), told),
+        Ok(class) => tell_code(class.code(&member_of(method)), told),
         Err(status) => status,
     }
 }

@@ -2,9 +2,11 @@
 
 ghost use Rattle.std.specs.Prelude.{◌≡◌, pos};
 ghost use Rattle.cm_commands.specs.Refusals.{refusal_number};
-ghost use Rattle.cm_core.specs.Status.{open_status};
+ghost use Rattle.cm_core.specs.Status.{open_status, bytes_status};
+ghost use Rattle.cm_core.specs.Damage.{damage_told, bytes_damage};
 
 use cm_commands::Refusal;
+use cm_stepped::BytesFault;
 use cm_verdict::{FileFault, OpenFault};
 
 /// It is done.
@@ -53,7 +55,8 @@ pub(crate) fn of_refusal(refusal: &Refusal) -> i32
 
 /// The number for a file that isn't opened.
 pub(crate) fn of_open_fault(fault: OpenFault, damage: &mut Damage) -> i32
-    ensures { result ≡ open_status fault }
+    ensures status { result ≡ open_status fault }
+    ensures damage { damage.new ≡ damage_told damage.old fault }
 {
     match fault {
         OpenFault::File(FileFault::NotACache) => NOT_A_CACHE,
@@ -64,5 +67,16 @@ pub(crate) fn of_open_fault(fault: OpenFault, damage: &mut Damage) -> i32
         }
         OpenFault::Device => TOO_LONG,
         OpenFault::NoMemory => NO_MEMORY,
+    }
+}
+
+/// The number for the bytes of a file that aren't opened.
+pub(crate) fn of_bytes_fault(fault: BytesFault, damage: &mut Damage) -> i32
+    ensures status { result ≡ bytes_status fault }
+    ensures damage { damage.new ≡ bytes_damage damage.old fault }
+{
+    match fault {
+        BytesFault::Older => OLDER,
+        BytesFault::Fault(fault) => of_open_fault(fault, damage),
     }
 }

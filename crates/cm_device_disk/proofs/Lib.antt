@@ -1,3 +1,5 @@
 mod Followed
+mod Noting
 mod Noted
+mod Taking
 mod RunBytes

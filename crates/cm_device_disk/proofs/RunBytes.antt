@@ -20,7 +20,7 @@ use Rattle.cm_disk.specs.Calls.{overwritten, words_in, IsTorn}
 use Rattle.cm_disk.specs.declared.disk.WordRange.{WordRange}
 use Rattle.cm_device_disk.specs.declared.word_run.WordRun.{WordRun}
 use Rattle.cm_device_disk.specs.Runs.{run_count, range_of, are_ranges, IsFull, IsOf, TellsWords}
-use Rattle.cm_device_disk.specs.Runs.{EndsInLimit}
+use Rattle.cm_device_disk.specs.Runs.{EndsInLimit, InOrder}
 use Rattle.cm_device_disk.specs.Runs.{with_words, with_runs}
 
 -- ---- bytes
@@ -78,6 +78,38 @@ ranges_end from len [] e = leb-true from len e
 ranges_end from len (r ∷ ranges) e =
     let h = and_parts (nat_le from r.at) (are_ranges (r.at + 8 * r.count) len ranges) e in
     omega (arith, leb-true from r.at h.0, ranges_end (r.at + 8 * r.count) len ranges h.1)
+
+ranges_begin : (from len : ℕ) (runs : List WordRun)
+    → are_ranges from len (map range_of runs) ≡ true
+    → (j : ℕ) (d : WordRun) → j < length runs → from ≤ (get_or runs j d).at
+ranges_begin from len [] e j d lt = absurd (omega arith)
+ranges_begin from len (r ∷ runs) e zero d lt =
+    let end = r.at + 8 * run_count r.words in
+    let h = and_parts (nat_le from r.at) (are_ranges end len (map range_of runs)) e in
+    leb-true from r.at h.0
+ranges_begin from len (r ∷ runs) e (suc j) d lt =
+    let end = r.at + 8 * run_count r.words in
+    let h = and_parts (nat_le from r.at) (are_ranges end len (map range_of runs)) e in
+    omega (
+      arith,
+      leb-true from r.at h.0,
+      ranges_begin end len runs h.1 j d (omega arith),
+    )
+
+-- ranges that lie one after another are in the order of their places
+pub ranges_in_order : (from len : ℕ) (runs : List WordRun)
+    → are_ranges from len (map range_of runs) ≡ true → InOrder runs
+ranges_in_order from len [] e i j d le lt = absurd (omega arith)
+ranges_in_order from len (r ∷ runs) e zero zero d le lt = omega arith
+ranges_in_order from len (r ∷ runs) e zero (suc j) d le lt =
+    let end = r.at + 8 * run_count r.words in
+    let h = and_parts (nat_le from r.at) (are_ranges end len (map range_of runs)) e in
+    omega (arith, ranges_begin end len runs h.1 j d (omega arith))
+ranges_in_order from len (r ∷ runs) e (suc i) zero d le lt = absurd (omega arith)
+ranges_in_order from len (r ∷ runs) e (suc i) (suc j) d le lt =
+    let end = r.at + 8 * run_count r.words in
+    let h = and_parts (nat_le from r.at) (are_ranges end len (map range_of runs)) e in
+    ranges_in_order end len runs h.1 i j d (omega arith) (omega arith)
 
 -- ---- one run
 

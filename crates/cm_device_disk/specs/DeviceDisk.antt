@@ -2,7 +2,7 @@
 use Rattle.std.specs.Prelude.{◌≡◌, ◌<◌, ◌+◌, ◌^◌, ℕ, Bool, true, false, List, [], length}
 use Rattle.std.specs.Prelude.{nat_le, map}
 use Rattle.std.specs.List.{All}
-use Rattle.std.specs.Prelude.{Option, is_some, not, ◌&&◌, take, if◌then◌else◌}
+use Rattle.std.specs.Prelude.{Option, is_some, not, ◌&&◌, ◌||◌, ◌*◌, take, if◌then◌else◌}
 use Rattle.cm_disk.specs.declared.disk.WordRange.{WordRange}
 use Rattle.cm_disk.specs.Calls.{DiskCall}
 use Rattle.cm_disk.specs.Calls.DiskCall.{Len, Read, Take, Write, Cut, Sync}
@@ -10,8 +10,10 @@ use Rattle.cm_disk.specs.Disk.{View, Unsynced, IsDurable}
 use Rattle.cm_disk.specs.Moments.{LeftSince}
 use Rattle.cm_device_disk.specs.declared.disk.DeviceDisk.{DeviceDisk}
 use Rattle.cm_device_disk.specs.declared.opening.OpenedDevice.{OpenedDevice}
-use Rattle.cm_device_disk.specs.State.{DiskState, moment_unsynced}
-use Rattle.cm_device_disk.specs.Runs.{IsOf, range_of}
+use Rattle.cm_device_disk.specs.declared.history.Call.TheVariants as noted
+use Rattle.cm_device_disk.specs.State.{DiskState, moment_unsynced, refused}
+use Rattle.cm_device_disk.specs.Calls.{CallFollows}
+use Rattle.cm_device_disk.specs.Runs.{IsOf, range_of, has_words, without}
 use Rattle.cm_device_disk.specs.Image.{image_held, image_runs, image_holds, image_cause}
 
 abbrev pub disk_state : {V F : Type 0} → DeviceDisk V F → DiskState
@@ -54,6 +56,10 @@ held_bytes disk = image_held disk.image
 abbrev pub held_ranges : {V F : Type 0} → DeviceDisk V F → List WordRange
 held_ranges disk = map range_of (image_runs disk.image)
 
+-- the words of this range are there, as they were read, and not yet taken
+abbrev pub has_range : {V F : Type 0} → DeviceDisk V F → ℕ → ℕ → Bool
+has_range disk at count = has_words at count (image_runs disk.image)
+
 -- why the first write, cut or sync that failed did so
 abbrev pub disk_cause : {V F : Type 0} → DeviceDisk V F → Option F
 disk_cause disk = image_cause disk.image
@@ -80,6 +86,7 @@ pub record IsOpenedDisk {V F : Type 0} (opened : OpenedDevice V)
   pub begins : take (length opened.beginning.items) (disk_contents disk) ≡ opened.beginning.items
   pub held : (n : ℕ) → holds disk n ≡ nat_le n (length opened.beginning.items)
   pub bytes : held_bytes disk ≡ length opened.beginning.items
+  pub runs : image_runs disk.image ≡ opened.runs.items
   pub ranges : held_ranges disk ≡ map range_of opened.runs.items
   pub words : All (IsOf (disk_contents disk)) opened.runs.items
   pub none_stored : (i : ℕ) → i < 2 ^ 40 → (disk_unsynced disk).is_open i ≡ true
@@ -117,11 +124,18 @@ pub record Reaches {V F : Type 0} (does : DiskCall → V → V → Bool → Type
 pub record OnlyAsks {V F : Type 0} (is_known : Bool) (old new : DeviceDisk V F)
     (ok : Bool) : Type 0 where
   pub exactly : ok ≡ is_known
+  pub image : new.image ≡ old.image
   pub held : (n : ℕ) → holds new n ≡ holds old n
   pub cause : disk_cause new ≡ disk_cause old
 
--- Words are taken: the bytes that are held are kept.
-pub record Takes {V F : Type 0} (old new : DeviceDisk V F) : Type 0 where
+-- Words are taken: that fails exactly if they are neither among the bytes that are held nor a range
+-- that is there. Bytes are copied; such a range is handed over, and no other.
+pub record Takes {V F : Type 0} (at count : ℕ) (old new : DeviceDisk V F)
+    (ok : Bool) : Type 0 where
+  pub exactly : ok ≡ (holds old (at + 8 * count) || has_range old at count)
+  pub ranges : image_runs new.image
+      ≡ (if ok && not (holds old (at + 8 * count)) then without at (image_runs old.image)
+      else image_runs old.image)
   pub held : (n : ℕ) → holds new n ≡ holds old n
   pub cause : disk_cause new ≡ disk_cause old
 
@@ -139,24 +153,41 @@ pub record GivesUp {V F : Type 0} (old new : DeviceDisk V F) (ok : Bool) : Type 
   pub changes : Changes old new ok
   pub given_up : (n : ℕ) → holds new n ≡ false
 
--- A sync: the bytes are still held, unless it fails.
+-- A sync: the bytes and words are still there, unless it fails.
 pub record Syncs {V F : Type 0} (old new : DeviceDisk V F) (ok : Bool) : Type 0 where
   pub changes : Changes old new ok
+  pub image : ok ≡ true → new.image ≡ old.image
   pub held : (n : ℕ) → holds new n ≡ (holds old n && ok)
 
 -- what a certain call does to the disk
 abbrev pub MadeOn : {V F : Type 0} → DiskCall → DeviceDisk V F → DeviceDisk V F → Bool → Type 0
 MadeOn Len old new ok = OnlyAsks (not (is_lost old)) old new ok
 MadeOn (Read at n) old new ok = OnlyAsks (holds old (at + n)) old new ok
-MadeOn (Take at count) old new ok = Takes old new
+MadeOn (Take at count) old new ok = Takes at count old new ok
 MadeOn (Write at bytes) old new ok = GivesUp old new ok
 MadeOn (Cut len) old new ok = GivesUp old new ok
 MadeOn Sync old new ok = Syncs old new ok
+
+-- The state that a call leads to, exactly. A query changes nothing; a write, a cut or a sync is
+-- noted as it went. A call that fails since an earlier one did changes nothing.
+abbrev pub Follows : DiskCall → Bool → DiskState → DiskState → Bool → Type 0
+Follows Len lost old new ok = new ≡ (if ok then old else refused old)
+Follows (Read at n) lost old new ok = new ≡ (if ok then old else refused old)
+Follows (Take at count) lost old new ok = new ≡ (if ok then old else refused old)
+Follows (Write at bytes) lost old new ok =
+    CallFollows (if ok then noted.Wrote at else if lost then noted.Failed else noted.NotWritten at)
+    bytes old new
+Follows (Cut len) lost old new ok =
+    CallFollows (if ok then noted.Cut len else if lost then noted.Failed else noted.NotCut len) []
+    old new
+Follows Sync lost old new ok =
+    CallFollows (if ok then noted.Synced else noted.Failed) [] old new
 
 -- what a certain call does in addition, to the disk and to its device
 pub record IsMade {V F : Type 0} (does : DiskCall → V → V → Bool → Type 0) (call : DiskCall)
     (old new : DeviceDisk V F) (ok : Bool) : Type 0 where
   pub on_disk : MadeOn call old new ok
+  pub on_state : Follows call (is_lost old) (disk_state old) (disk_state new) ok
   pub on_device : Reaches does call old new ok
 
 -- One call, whichever it is. If it fails, that counts as one failure. Once a write, a cut or a sync
@@ -167,4 +198,4 @@ pub record IsDeviceCall {V F : Type 0} (does : DiskCall → V → V → Bool →
   pub fails : is_lost old ≡ true → ok ≡ false
   pub cause : is_lost old ≡ true → disk_cause new ≡ disk_cause old
   pub call : DiskCall
-  pub on_device : Reaches does call old new ok
+  pub made : IsMade does call old new ok

@@ -1,7 +1,8 @@
 -- Words that were read from a device, besides its beginning.
 use Rattle.std.specs.Prelude.{◌≡◌, ◌≤◌, ◌+◌, ◌*◌, ◌^◌, ℕ, List, [], ◌∷◌, length, Option, Some, None}
-use Rattle.std.specs.Prelude.{Bool, nat_le, ◌&&◌}
+use Rattle.std.specs.Prelude.{Bool, false, nat_le, nat_lt, nat_eq, ◌&&◌, if◌then◌else◌}
 use Rattle.std.specs.Option.{ForSome}
+use Rattle.std.specs.List.Sorted.{IsNonDecreasingBy}
 use Rattle.cm_words.specs.Words.{Words, words_of}
 use Rattle.cm_words.specs.Bytes.{word_bytes, packed_into}
 use Rattle.cm_disk.specs.declared.disk.WordRange.{WordRange}
@@ -21,6 +22,33 @@ abbrev pub are_ranges : ℕ → ℕ → List WordRange → Bool
 are_ranges from len [] = nat_le from len
 are_ranges from len (r ∷ ranges) =
     nat_le from r.at && are_ranges (r.at + 8 * r.count) len ranges
+
+-- the runs are in the order of their places
+abbrev pub InOrder : List WordRun → Type 0
+InOrder runs = IsNonDecreasingBy (λ (run : WordRun). run.at) runs
+
+-- it still has words, and as many as this
+abbrev pub has_count : ℕ → Option Words → Bool
+has_count count None = false
+has_count count (Some w) = nat_eq (length w.words) count
+
+abbrev pub is_run : ℕ → ℕ → WordRun → Bool
+is_run at count run = nat_eq run.at at && has_count count run.words
+
+-- the words of a range are still there as one run: the first one that doesn't begin before it
+abbrev pub has_words : ℕ → ℕ → List WordRun → Bool
+has_words at count [] = false
+has_words at count (run ∷ runs) =
+    if nat_lt run.at at then has_words at count runs else is_run at count run
+
+-- the words of a run were taken
+abbrev pub emptied : WordRun → WordRun
+emptied run = record run { words = None }
+
+-- the same runs, after the words of the first one that doesn't begin before a place were taken
+abbrev pub without : ℕ → List WordRun → List WordRun
+without at [] = []
+without at (run ∷ runs) = if nat_lt run.at at then run ∷ without at runs else emptied run ∷ runs
 
 -- its words fill their buffer
 abbrev pub IsFull : WordRun → Type 0

@@ -49,6 +49,10 @@ opened at n moment = record moment {
 abbrev pub lowered : ℕ → Moment → Moment
 lowered len moment = record moment { least = min moment.least len }
 
+-- a call failed and changed nothing
+abbrev pub refused : DiskState → DiskState
+refused state = record state { failures = state.failures + 1 }
+
 -- an empty device
 abbrev pub no_bytes : DiskState
 no_bytes = record { now = stored []; moments = []; failures = 0 }

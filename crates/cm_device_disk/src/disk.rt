@@ -1,13 +1,15 @@
 //! A disk over a device.
 ghost use Rattle.std.specs.Prelude.{◌≡◌, ◌≤◌, ◌+◌, ◌*◌, ◌^◌, ℕ, length, take, drop, IfOk, IfSome};
-ghost use Rattle.std.specs.Prelude.{IfErr, is_none, is_ok, is_some, nat_le, true};
+ghost use Rattle.std.specs.Prelude.{IfErr, is_none, is_ok, is_some, nat_le, not, true, false};
+ghost use Rattle.std.specs.Prelude.{◌&&◌, ◌||◌};
+ghost use Rattle.std.specs.Prelude.{if◌then◌else◌};
 ghost use Rattle.std.specs.List.{All};
 ghost use Rattle.std.proofs.Common.{inl};
 ghost use Rattle.cm_words.specs.Words.{words_of};
 ghost use Rattle.cm_disk.specs.Calls.{words_in};
 ghost use Rattle.cm_disk.specs.Moments.{none_since_now};
 ghost use Rattle.cm_device_disk.specs.Image.{image_bytes, image_length, image_runs};
-ghost use Rattle.cm_device_disk.specs.Runs.{IsOf, are_ranges};
+ghost use Rattle.cm_device_disk.specs.Runs.{IsOf, InOrder, are_ranges, without};
 ghost use Rattle.cm_device_disk.specs.State.{IsSoundState};
 
 use crate::ahead::WordsAhead;
@@ -38,13 +40,14 @@ pub struct DeviceDisk<V, F> {
     ghost sound: { IsSoundState history.state },
     ghost bytes_known: { image_bytes image history.state.now.bytes ≡ history.state.now.bytes },
     ghost words_known: { All (IsOf history.state.now.bytes) (image_runs image) },
+    ghost in_order: { InOrder (image_runs image) },
     ghost length_known: { image_length image (length history.state.now.bytes)
         ≡ length history.state.now.bytes },
 }
 
 impl<V: Device<Fault = F>, F: Copy> DeviceDisk<V, F> {
     ghost use Rattle.cm_device_disk.specs.DeviceDisk.{disk_contents, is_lost, disk_cause, holds};
-    ghost use Rattle.cm_device_disk.specs.DeviceDisk.{held_bytes, held_ranges};
+    ghost use Rattle.cm_device_disk.specs.DeviceDisk.{held_bytes, held_ranges, has_range};
     ghost use Rattle.cm_device_disk.specs.DeviceDisk.{IsOpenedDisk, IsEmptyDisk, IsSameDisk};
 
     /// The disk of a device that was opened, with the bytes and words that were read from it. None
@@ -101,10 +104,12 @@ impl<V: Device<Fault = F>, F: Copy> DeviceDisk<V, F> {
         ensures begins { IfOk result (λ d. (n : ℕ) → holds self n ≡ true
             → take n (disk_contents d) ≡ take n (disk_contents self)) }
         ensures held { IfOk result (λ d. (n : ℕ) → holds d n ≡ holds self n) }
+        ensures bytes { IfOk result (λ d. held_bytes d ≡ held_bytes self) }
         ensures words { IfOk result (λ d. holds self 0 ≡ true
             → are_ranges (held_bytes self) (length (disk_contents self)) ranges.now ≡ true
             → held_ranges d ≡ ranges.now) }
         ensures cause { IfOk result (λ d. disk_cause d ≡ disk_cause self) }
+        ensures same { IfOk result (λ d. holds self 0 ≡ false → d ≡ self) }
     {
         match self.into_opened(alloc) {
             Ok(opened) => Ok(DeviceDisk::of_opened(opened.read_words(alloc, ranges, ahead)?)),
@@ -163,7 +168,7 @@ impl<V: Device<Fault = F>, F: Copy> DeviceDisk<V, F> {
     }
 
     /// The number of bytes, unless a write, a cut or a sync has failed.
-    fn known_len(&self) -> Option<u64>
+    pub(crate) fn known_len(&self) -> Option<u64>
         ensures none { is_none result ≡ is_lost self.now }
         ensures some { IfSome result (λ n. n ≡ length (disk_contents self.now)) }
     {
@@ -175,7 +180,7 @@ impl<V: Device<Fault = F>, F: Copy> DeviceDisk<V, F> {
 
     /// `count` bytes from a place on, if they are held.
     #[tactic(auto, using(crate::proofs::Followed::part_of_beginning))]
-    fn held(&self, at: u64, count: usize) -> Option<&[u8]>
+    pub(crate) fn held(&self, at: u64, count: usize) -> Option<&[u8]>
         requires { at + count ≤ length (disk_contents self.now) }
         ensures known { is_some result ≡ holds self.now (at + count) }
         ensures some { IfSome result
@@ -193,7 +198,12 @@ impl<V: Device<Fault = F>, F: Copy> DeviceDisk<V, F> {
         requires { range.at + 8 * range.count ≤ length (disk_contents self.old) }
         ensures words { IfSome result (λ taken. IfOk taken (λ words. words
             ≡ words_of (words_in range.at range.count (disk_contents self.old)) range.count)) }
+        ensures exactly { is_some result ≡ (holds self.old (range.at + 8 * range.count)
+            || has_range self.old range.at range.count) }
         ensures lost { is_lost self.old ≡ true → is_none result ≡ true }
+        ensures ranges { image_runs self.new.image
+            ≡ (if is_some result && not (holds self.old (range.at + 8 * range.count))
+            then without range.at (image_runs self.old.image) else image_runs self.old.image) }
         ensures state { self.new.history.state ≡ self.old.history.state }
         ensures device { self.new.device ≡ self.old.device }
         ensures held { (n : ℕ) → holds self.new n ≡ holds self.old n }

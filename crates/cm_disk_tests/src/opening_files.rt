@@ -59,6 +59,33 @@ fn a_file_past_the_limit_is_not_read(rt: HostRuntime) -> Result<(), Fail> {
     Ok(())
 }
 
+/// Whether a file is in use, for whoever writes to it, and for whoever only reads.
+fn is_in_use(rt: &HostRuntime, path: &str) -> (bool, bool) {
+    let to_write = cm_file_disk::open(rt, rt.alloc(), path);
+    let is_refused = matches!(to_write, Err(OpenError::InUse));
+    drop(to_write);
+    let to_read = cm_file_disk::open_read_only(rt, rt.alloc(), path);
+    (is_refused, matches!(to_read, Err(OpenError::InUse)))
+}
+
+#[test]
+fn one_disk_at_a_time_writes_to_a_file(rt: HostRuntime) -> Result<(), Fail> {
+    let path = "cm_file_disk_in_use.tmp";
+    let _ = fs::remove_file(&rt, path);
+    let made = cm_file_disk::create(&rt, rt.alloc(), path)?;
+    assert_eq!(rt; is_in_use(&rt, path), (true, true));
+    drop(made);
+    let opened = cm_file_disk::open(&rt, rt.alloc(), path)?;
+    assert_eq!(rt; is_in_use(&rt, path), (true, true));
+    drop(opened);
+    let read = cm_file_disk::open_read_only(&rt, rt.alloc(), path)?;
+    assert_eq!(rt; is_in_use(&rt, path), (true, false));
+    drop(read);
+    assert_eq!(rt; is_in_use(&rt, path), (false, false));
+    fs::remove_file(&rt, path)?;
+    Ok(())
+}
+
 /// Whether no file is created there, since something has the name.
 fn is_taken(rt: &HostRuntime, path: &str) -> bool {
     matches!(

@@ -31,7 +31,7 @@ impl<R: Wait> Work<R> for Share<'_> {
 
     ghost may_run = { λ _. Unit {0} };
 
-    ghost keeps = { λ _ _. Unit {0} };
+    ghost keeps = { λ _ _ _. Unit {0} };
 
     /// Defines the classes, and returns how many are then found.
     fn run<K: Naming>(

@@ -12,7 +12,7 @@ use crate::fault::{CreateError, OpenError};
 use crate::{FileDisk, OpenedFile};
 use cm_device_disk::{DeviceDisk, OpenedDevice};
 use std::alloc::Global;
-use std::fs::{self, File, Files, Metadata, OpenOptions};
+use std::fs::{self, File, Files, Metadata, OpenOptions, TryLockError};
 use std::io;
 use std::os::fd::AsRawFd;
 use std::path::Path;
@@ -26,8 +26,13 @@ const STANDARD_ERROR: i32 = 2;
 /// Opens a regular file that exists, and reads the first 4,096 bytes of it, or all if it has
 /// fewer. Anything but a regular file isn't opened, since opening a pipe may block forever.
 ///
+/// The file is locked (`flock`) until the disk is dropped, however the process ends: meanwhile
+/// nothing else opens it as a disk, in this process or another.
+///
 /// # Errors
 /// [`OpenError::NotRegular`] if it is no regular file; it isn't opened then.
+/// [`OpenError::InUse`] if something else holds its lock; there is no wait, and nothing is read.
+/// [`OpenError::NotLocked`] if its file system has no locks.
 /// [`OpenError::TooLong`] if it has more bytes than a disk may have, [`OpenError::NoMemory`] if an
 /// allocation failed, and [`OpenError::Device`] if the system doesn't find, open or read it. The
 /// file is unchanged.
@@ -38,11 +43,14 @@ pub fn open(
 ) -> Result<OpenedFile, OpenError>
     ensures { IfOk result (λ f. length f.beginning.items ≡ min f.len 4096) }
 {
-    open_file(rt, alloc, path, OpenOptions::new().read(true).write(true))
+    let file = open_regular(rt, path, OpenOptions::new().read(true).write(true))?;
+    file.try_lock()?;
+    read_beginning(alloc, file)
 }
 
 /// Like [`open`], but writes and cuts of its disk fail; no permission to write to the file is
-/// needed.
+/// needed. Others may open it in this way at the same time, but nothing may write to it. If its
+/// file system has no locks, it is opened all the same.
 pub fn open_read_only(
     rt: &impl Files<File = File>,
     alloc: Global,
@@ -50,14 +58,21 @@ pub fn open_read_only(
 ) -> Result<OpenedFile, OpenError>
     ensures { IfOk result (λ f. length f.beginning.items ≡ min f.len 4096) }
 {
-    open_file(rt, alloc, path, OpenOptions::new().read(true))
+    let file = open_regular(rt, path, OpenOptions::new().read(true))?;
+    if let Err(TryLockError::WouldBlock) = file.try_lock_shared() {
+        return Err(OpenError::InUse);
+    }
+    read_beginning(alloc, file)
 }
 
-/// Creates a file of no bytes if nothing has that name, as a disk. The file and its name in the
-/// folder are made durable. If that fails, what was created is removed, if the system permits it.
+/// Creates a file of no bytes if nothing has that name, as a disk, and locks it as [`open`] does.
+/// The file and its name in the folder are made durable. If that fails, what was created is
+/// removed, if the system permits it.
 ///
 /// # Errors
-/// [`CreateError::Exists`] if something has that name; else the system's error.
+/// [`CreateError::Exists`] if something has that name, [`CreateError::InUse`] if another process
+/// locked the file first, [`CreateError::NotLocked`] if its file system has no locks, and
+/// [`CreateError::Device`] with the system's error otherwise.
 pub fn create(
     rt: &impl Files<File = File>,
     alloc: Global,
@@ -95,17 +110,20 @@ fn above_standard_streams(file: File) -> io::Result<File> {
     }
 }
 
-/// Opens a regular file, and reads its first bytes.
-fn open_file(
+/// Opens a regular file, which nothing is read of.
+fn open_regular(
     rt: &impl Files<File = File>,
-    alloc: Global,
     path: &str,
     how: &OpenOptions,
-) -> Result<OpenedFile, OpenError>
+) -> Result<File, OpenError> {
+    regular_length(&fs::metadata(rt, path)?)?;
+    Ok(above_standard_streams(how.open(rt, path)?)?)
+}
+
+/// Reads the first bytes of a file.
+fn read_beginning(alloc: Global, file: File) -> Result<OpenedFile, OpenError>
     ensures { IfOk result (λ f. length f.beginning.items ≡ min f.len 4096) }
 {
-    regular_length(&fs::metadata(rt, path)?)?;
-    let file = above_standard_streams(how.open(rt, path)?)?;
     let len = regular_length(&file.metadata()?)?;
     Ok(OpenedDevice::of_device(alloc, FileDevice { file }, len)?)
 }
@@ -122,7 +140,7 @@ fn create_file(rt: &impl Files<File = File>, path: &str) -> Result<File, CreateE
         Err(error) => {
             // It would be in the way of the next attempt.
             let _ = fs::remove_file(rt, path);
-            Err(CreateError::Device(error))
+            Err(error)
         }
     }
 }
@@ -138,8 +156,10 @@ fn why_not_created(error: io::Error) -> CreateError
     }
 }
 
-fn store_new(rt: &impl Files<File = File>, file: File, path: &str) -> io::Result<File> {
+/// Locks a new file, and makes it and its name durable.
+fn store_new(rt: &impl Files<File = File>, file: File, path: &str) -> Result<File, CreateError> {
     let file = above_standard_streams(file)?;
+    file.try_lock()?;
     file.sync_all()?;
     File::open(rt, folder_of(path))?.sync_all()?;
     Ok(file)

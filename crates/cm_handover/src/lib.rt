@@ -1,4 +1,5 @@
-//! The cache as an abstract machine, which the accepted cache follows: the page to read first.
+//! Laws: the accepted cache does what the abstract machine does, and what it hands over may always
+//! be committed next.
 #![tactic(auto)]
 
 mod carrying;

@@ -6,12 +6,13 @@ ghost use Rattle.cm_import.specs.Left.{left_in, unread_of, left_of};
 use crate::batch::{entries_at_once, files_at_once};
 use crate::open_jar::{OpenJar, UnreadJar};
 use crate::preparer::{Named, Preparer};
-use crate::report::Report;
-use cm_commands::{Prepared, Refusal};
+use crate::report::{Given, Report};
+use cm_commands::Prepared;
 use cm_found_classes::Place;
-use cm_importing::Feed;
+use cm_importing::{Feed, Outcome};
 use cm_jar::JarFault;
 use std::alloc::{AllocError, Global};
+use std::collections::HashSet;
 use std::fs::{File, Files};
 use std::thread::Threads;
 use std::time::Clock;
@@ -26,8 +27,10 @@ pub struct FoundClasses<'a, R> {
     places: Vec<Place>,
     jar: Option<OpenJar>,
     preparer: Preparer<'a, R>,
-    /// The names of the classes that were given last.
-    given: Vec<String>,
+    /// The classes that were given last.
+    given: Vec<Given>,
+    /// The names of all classes that were given.
+    seen: HashSet<Vec<u8>>,
 }
 
 impl<'a, R> FoundClasses<'a, R>
@@ -39,11 +42,13 @@ where
         let mut places = places;
         places.reverse();
         let given = Vec::new(preparer.rt().alloc());
+        let seen = HashSet::new(preparer.rt().alloc());
         FoundClasses {
             places,
             jar: None,
             preparer,
             given,
+            seen,
         }
     }
 
@@ -165,7 +170,8 @@ where
             let Some(Named { name, class }) = self.preparer.take() else {
                 break;
             };
-            self.given.push(name)?;
+            let is_first = self.seen.insert(class.class_name(alloc)?)?;
+            self.given.push(Given { name, is_first })?;
             classes.push(class)?;
         }
         if classes.is_empty() {
@@ -175,7 +181,7 @@ where
         }
     }
 
-    fn tell(&mut self, answers: &[Result<u64, Refusal>]) {
-        self.preparer.add_answers(&self.given, answers);
+    fn tell(&mut self, outcomes: &[Outcome]) {
+        self.preparer.add_outcomes(&self.given, outcomes);
     }
 }

@@ -39,8 +39,8 @@ where
     let mut disk = match cm_file_disk::create(rt, rt.alloc(), path) {
         Ok(disk) => disk,
         Err(CreateError::Exists) => return Err(say(rt, FormatFault::NotEmpty, Status::Refused)),
-        Err(CreateError::Device(cause)) => {
-            warn(rt, format_args!("{path}: {cause}"));
+        Err(error) => {
+            warn(rt, format_args!("{path}: {error}"));
             return Err(say(rt, FormatFault::Device, Status::Failed));
         }
     };

@@ -17,14 +17,16 @@ mod version;
 use crate::arguments::{Import, Request, read_words};
 use crate::feed::FoundClasses;
 use crate::files::{find_all, format_new, open_disk, tell_failure};
-use crate::messages::{fail, say};
+use crate::messages::{fail, say, warn};
 use crate::preparer::Preparer;
 use crate::progress::Progress;
 use crate::report::Report;
+use cm_commands::Refusal;
 use cm_file_disk::FileDisk;
 use cm_found_classes::{Found, Place};
 use cm_importing::{ImportFault, import};
 use cm_maintenance::{Status, tell_fault};
+use cm_verdict::OpenFault;
 use std::fs::{File, Files};
 use std::io::{self, IsTerminal};
 use std::process::ExitCode;
@@ -76,6 +78,38 @@ fn bytes_of(places: &[Place]) -> u64 {
     bytes
 }
 
+/// Says why no cache opens from the file, as `cmcache check` does, and on standard error which file
+/// that is: the arguments may be in another order than was meant.
+fn say_not_opened(
+    rt: &(impl Print + Eprint + AllocGlobal),
+    path: &str,
+    fault: OpenFault,
+) -> Status {
+    if let OpenFault::File(fault) = fault {
+        warn(rt, format_args!("{path}: {fault}"));
+    }
+    match tell_fault(rt.alloc(), &mut io::writer(rt), fault) {
+        Ok(status) => status,
+        Err(fault) => fail(rt, fault),
+    }
+}
+
+/// Says why the loader isn't added, and what a loader's name is if it has none.
+fn say_refused(rt: &(impl Print + Eprint), refusal: Refusal) -> Status {
+    if let Refusal::BadName = refusal {
+        warn(
+            rt,
+            "LOADER has 1 to 96 bytes, each 0x21 to 0x7E (printable ASCII)",
+        );
+    }
+    let number = refusal.number();
+    say(
+        rt,
+        format_args!("refused {number} {refusal}"),
+        Status::Refused,
+    )
+}
+
 /// Imports what was found, and says what came of it.
 fn import_into<R>(rt: &R, request: &Import, feed: FoundClasses<'_, R>, disk: FileDisk) -> Status
 where
@@ -89,15 +123,8 @@ where
     let report = feed.into_report();
     match result {
         Ok(number) => report.say_all(rt, number),
-        Err(ImportFault::Open(fault)) => match tell_fault(rt.alloc(), &mut io::writer(rt), fault) {
-            Ok(status) => status,
-            Err(fault) => fail(rt, fault),
-        },
-        Err(ImportFault::Loader(refusal)) => say(
-            rt,
-            format_args!("refused {} {}", refusal.number(), refusal),
-            Status::Refused,
-        ),
+        Err(ImportFault::Open(fault)) => say_not_opened(rt, request.file.as_str(), fault),
+        Err(ImportFault::Loader(refusal)) => say_refused(rt, refusal),
         Err(fault) => {
             report.say_imported(rt);
             fail(rt, fault)

@@ -5,7 +5,7 @@ ghost use Rattle.std.specs.Prelude.{◌≡◌, ◌≤◌, ◌+◌, length, OnOk,
 use crate::batch::run_all;
 use crate::job::{Job, Outcome, Source};
 use crate::progress::Progress;
-use crate::report::Report;
+use crate::report::{Given, Report};
 use cm_commands::{Prepared, Refusal};
 use cm_found_classes::Place;
 use cm_jar::Entry;
@@ -113,15 +113,15 @@ where
         self.progress.add_read(bytes);
     }
 
-    /// Tells the report what became of the classes of these names.
-    pub fn add_answers(&mut self, names: &[String], answers: &[Result<u64, Refusal>])
+    /// Tells the report what became of these classes.
+    pub fn add_outcomes(&mut self, classes: &[Given], outcomes: &[cm_importing::Outcome])
         ensures { self.new.ready ≡ self.old.ready }
     {
-        for (name, answer) in names.iter().zip(answers) {
-            if answer.is_err() {
+        for (class, outcome) in classes.iter().zip(outcomes) {
+            if !matches!(outcome, cm_importing::Outcome::Stored(_)) {
                 self.progress.clear(self.rt);
             }
-            self.report.add_answer(self.rt, name.as_str(), answer);
+            self.report.add_outcome(self.rt, class, *outcome);
         }
         self.progress.show(self.rt, self.report.imported());
     }

@@ -5,12 +5,22 @@ use crate::sizes::{Records, Region, region_for, slots_for};
 use crate::version::Version;
 use cm_commands::{Prepared, Refusal};
 use cm_found_classes::Unsearched;
+use cm_importing::Outcome;
 use cm_maintenance::Status;
 use std::alloc::{AllocError, Global};
 use std::fmt::Display;
 
-/// How many refusals are told one by one.
+/// How many refusals, and how many changed classes, have a line each.
 const MOST_TOLD: u64 = 20;
+
+/// A class that a cache is asked to define.
+#[derive(Debug, Drop)]
+pub struct Given {
+    /// What it is called in messages.
+    pub name: String,
+    /// Whether none of its name was given before. On a class path the first one counts.
+    pub is_first: bool,
+}
 
 /// How many classes there are of another version.
 #[derive(Clone, Copy, Debug)]
@@ -24,6 +34,7 @@ struct Skipped {
 pub struct Report {
     imported: u64,
     there: u64,
+    changed: u64,
     skipped: Vec<Skipped>,
     refused: u64,
     /// How many paths, jars and entries can't be read.
@@ -41,6 +52,7 @@ impl Report {
         Report {
             imported: 0,
             there: 0,
+            changed: 0,
             skipped: Vec::new(alloc),
             refused: 0,
             unread: 0,
@@ -61,15 +73,24 @@ impl Report {
     }
 
     /// What became of a class that a cache was asked to define.
-    pub fn add_answer(&mut self, rt: &impl Eprint, name: &str, answer: &Result<u64, Refusal>) {
-        match answer {
-            Ok(_) => self.imported = self.imported.saturating_add(1),
-            Err(Refusal::ClassExists) => self.there = self.there.saturating_add(1),
-            Err(refusal) => {
-                self.note_room(*refusal);
-                self.add_refused(rt, name, *refusal);
+    pub fn add_outcome(&mut self, rt: &impl Eprint, class: &Given, outcome: Outcome) {
+        match outcome {
+            Outcome::Stored(_) => self.imported = self.imported.saturating_add(1),
+            Outcome::Changed if class.is_first => self.add_changed(rt, class.name.as_str()),
+            Outcome::There | Outcome::Changed => self.there = self.there.saturating_add(1),
+            Outcome::Refused(refusal) => {
+                self.note_room(refusal);
+                self.add_refused(rt, class.name.as_str(), refusal);
             }
         }
+    }
+
+    /// One class more of which the loader has another one.
+    fn add_changed(&mut self, rt: &impl Eprint, name: &str) {
+        if self.changed < MOST_TOLD {
+            warn(rt, format_args!("{name}: changed"));
+        }
+        self.changed = self.changed.saturating_add(1);
     }
 
     /// Notes what a file that refuses a class had no room for.
@@ -135,6 +156,16 @@ impl Report {
                 format_args!("skipped {count} of version {major}.{minor}"),
             );
         }
+        if self.changed > MOST_TOLD {
+            let more = self.changed - MOST_TOLD;
+            warn(rt, format_args!("changed {more} more"));
+        }
+        if self.changed > 0 {
+            warn(
+                rt,
+                "the loader keeps its classes of these names: unload it to import the changed ones",
+            );
+        }
         if self.refused > MOST_TOLD {
             let more = self.refused - MOST_TOLD;
             warn(rt, format_args!("refused {more} more"));
@@ -182,17 +213,18 @@ impl Report {
     /// Says what became of all, and gives the status.
     pub fn say_all(&self, rt: &(impl Print + Eprint), number: u64) -> Status {
         self.say_rest(rt);
-        let status = if self.refused > 0 || self.unread > 0 {
+        let status = if self.refused > 0 || self.unread > 0 || self.changed > 0 {
             Status::Refused
         } else {
             Status::Done
         };
-        let (done, there, refused) = (self.imported, self.there, self.refused);
-        let skipped = self.skipped();
+        let (done, there, changed) = (self.imported, self.there, self.changed);
+        let (skipped, refused) = (self.skipped(), self.refused);
         say(
             rt,
             format_args!(
-                "imported {done} there {there} skipped {skipped} refused {refused} number {number}"
+                "imported {done} there {there} changed {changed} skipped {skipped} \
+                 refused {refused} number {number}"
             ),
             status,
         )

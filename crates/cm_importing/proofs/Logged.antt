@@ -26,21 +26,21 @@ logs_on (Some had) (Some has) (Some holds) first second one two =
 
 group_events_more : (groups : List Group) (group : Group)
     → group_events (groups ++ group ∷ [])
-    ≡ group_events groups ++ (Given group.classes ∷ Told group.answers ∷ [])
+    ≡ group_events groups ++ (Given group.classes ∷ Told group.outcomes ∷ [])
 group_events_more [] group = refl
 group_events_more (g ∷ groups) group =
-    ap (λ l. Given g.classes ∷ Told g.answers ∷ l) (group_events_more groups group)
+    ap (λ l. Given g.classes ∷ Told g.outcomes ∷ l) (group_events_more groups group)
 
 module _ {D : Type 0} (Leaves : D → D → (List ℕ → Type 0) → Type 0) (sizes : Sizes)
     (loader : List ℕ) where
   imports_more : (groups : List Group) (group : Group) (old between new : Pause D)
       → ImportsEach Leaves sizes loader groups old between
-      → StoresGroup Leaves sizes (defines loader group.classes) group.answers between new
+      → StoresGroup Leaves sizes (defines loader group.classes) group.outcomes between new
       → ImportsEach Leaves sizes loader (groups ++ group ∷ []) old new
   imports_more [] group old between new is more = (
     new,
     subst (λ (p : Pause D).
-        StoresGroup Leaves sizes (defines loader group.classes) group.answers p new) is more,
+        StoresGroup Leaves sizes (defines loader group.classes) group.outcomes p new) is more,
     refl,
   )
   imports_more (g ∷ groups) group old between new is more =
@@ -68,8 +68,8 @@ module _ {D : Type 0} (Leaves : D → D → (List ℕ → Type 0) → Type 0) (s
 
     -- a group was stored, and the feed was told
     pub told_of : (group : Group) (last : Option (List FeedEvent)) (new : Pause D)
-        → Logs after last (Given group.classes ∷ Told group.answers ∷ [])
-        → StoresGroup Leaves sizes (defines loader group.classes) group.answers between new
+        → Logs after last (Given group.classes ∷ Told group.outcomes ∷ [])
+        → StoresGroup Leaves sizes (defines loader group.classes) group.outcomes between new
         → ImportsGroups Leaves sizes loader before last [] old new
     told_of group last new told stored = record {
       groups = so_far.groups ++ group ∷ [];
@@ -77,10 +77,10 @@ module _ {D : Type 0} (Leaves : D → D → (List ℕ → Type 0) → Type 0) (s
       logged = subst (λ l. Logs before last l)
           (sym (append-nil (group_events (so_far.groups ++ group ∷ []))
           ∙ group_events_more so_far.groups group))
-          (subst (λ l. Logs before last (l ++ (Given group.classes ∷ Told group.answers ∷ [])))
+          (subst (λ l. Logs before last (l ++ (Given group.classes ∷ Told group.outcomes ∷ [])))
           (append-nil (group_events so_far.groups))
           (logs_on before after last (group_events so_far.groups ++ [])
-          (Given group.classes ∷ Told group.answers ∷ []) so_far.logged told));
+          (Given group.classes ∷ Told group.outcomes ∷ []) so_far.logged told));
     }
 
   -- ---- why an import ends

@@ -1,3 +1,4 @@
 pub mod Feeds
 pub mod Groups
+pub mod Outcomes
 pub mod Runs

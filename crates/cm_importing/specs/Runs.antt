@@ -20,6 +20,8 @@ use Rattle.cm_session.specs.Images.{StandsForSome}
 use Rattle.cm_session.specs.Moves.{SessionMatches, ReachesMachine}
 use Rattle.cm_importing.specs.declared.fault.ImportFault.{ImportFault}
 use Rattle.cm_importing.specs.declared.fault.ImportFault.TheVariants as fault
+use Rattle.cm_importing.specs.declared.outcome.Outcome.TheVariants.{Refused}
+use Rattle.cm_importing.specs.Outcomes.{outcome_alone}
 use Rattle.cm_importing.specs.Feeds.{FeedEvent, Given, Told, NoMore, Logs, Group}
 use Rattle.cm_importing.specs.Feeds.{group_events}
 use Rattle.cm_importing.specs.Groups.{Pause, pause, IsReady, defines, StoresGroup, LosesGroup}
@@ -47,8 +49,8 @@ abbrev pub RunsTurn : {D : Type 0} → (D → D → (List ℕ → Type 0) → Ty
     → Pause D → Type 0
 RunsTurn Leaves sizes loader before after (Ok true) old new =
     (group : Group)
-    × StoresGroup Leaves sizes (defines loader group.classes) group.answers old new
-    × Logs before after (Given group.classes ∷ Told group.answers ∷ [])
+    × StoresGroup Leaves sizes (defines loader group.classes) group.outcomes old new
+    × Logs before after (Given group.classes ∷ Told group.outcomes ∷ [])
     × IsReady new.machine
 RunsTurn Leaves sizes loader before after (Ok false) old new =
     Logs before after (NoMore ∷ []) × (new ≡ old)
@@ -68,7 +70,7 @@ abbrev pub ImportsEach : {D : Type 0} → (D → D → (List ℕ → Type 0) →
 ImportsEach Leaves sizes loader [] old new = new ≡ old
 ImportsEach {D = D} Leaves sizes loader (group ∷ groups) old new =
     (next : Pause D)
-    × StoresGroup Leaves sizes (defines loader group.classes) group.answers old next
+    × StoresGroup Leaves sizes (defines loader group.classes) group.outcomes old next
     × ImportsEach Leaves sizes loader groups next new
 
 -- Groups were imported, each as the feed gave it, and once a group was stored the feed was told
@@ -131,7 +133,7 @@ pub record AddsLoader {D : Type 0} (Leaves : D → D → (List ℕ → Type 0) �
     (loader : List ℕ) (old new : Pause D) : Type 0 where
   pub answer : Result ℕ Refusal
   pub there : IsThere answer
-  pub stored : StoresGroup Leaves sizes (AddLoader loader ∷ []) (answer ∷ []) old new
+  pub stored : StoresGroup Leaves sizes (AddLoader loader ∷ []) (outcome_alone answer ∷ []) old new
 
 -- ---- a whole run
 
@@ -144,7 +146,7 @@ RunsLoader Leaves sizes loader (Err fault.Device) old new =
     LosesGroup Leaves sizes (AddLoader loader ∷ []) old new
 RunsLoader Leaves sizes loader (Err (fault.Loader r)) old new =
     (r ≢ refusal.LoaderExists)
-    × StoresGroup Leaves sizes (AddLoader loader ∷ []) (Err r ∷ []) old new
+    × StoresGroup Leaves sizes (AddLoader loader ∷ []) (Refused r ∷ []) old new
 RunsLoader Leaves sizes loader (Err fault.NoMemory) old new = ⊥
 RunsLoader Leaves sizes loader (Err (fault.Open f)) old new = ⊥
 

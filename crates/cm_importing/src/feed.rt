@@ -4,7 +4,8 @@ ghost use Rattle.std.specs.Prelude.{◌≤◌, ◌<◌, ℕ, [], ◌∷◌, List
 ghost use Rattle.std.specs.Thread.{IsSync};
 ghost use Rattle.cm_importing.specs.Feeds.{FeedEvent, Told, Logs, events_of_next};
 
-use cm_commands::{Prepared, Refusal};
+use crate::outcome::Outcome;
+use cm_commands::Prepared;
 use std::alloc::{AllocError, Global};
 use std::thread::Threads;
 
@@ -30,9 +31,8 @@ pub trait Feed {
         ensures logged { Logs (log self.old) (log self.new) (events_of_next result) }
         ensures fewer { IfOk result (λ given. IsSome given → left self.new < left self.old) };
 
-    /// Is told what became of the classes that it gave last, in their order: each is stored, with
-    /// the number of its command, or refused.
-    fn tell(&mut self, answers: &[Result<u64, Refusal>])
-        ensures logged { Logs (log self.old) (log self.new) (Told answers.now ∷ []) }
+    /// Is told what became of the classes that it gave last, in their order.
+    fn tell(&mut self, outcomes: &[Outcome])
+        ensures logged { Logs (log self.old) (log self.new) (Told outcomes.now ∷ []) }
         ensures no_more { left self.new ≤ left self.old };
 }

@@ -40,8 +40,8 @@ fn import_next<R: Threads + Sync, D: Disk, F: Feed>(
         Err(_) => return Err(ImportFault::NoMemory),
     };
     match import_group(alloc, session, loader, classes) {
-        Ok(answers) => {
-            feed.tell(&answers);
+        Ok(outcomes) => {
+            feed.tell(&outcomes);
             Ok(true)
         }
         Err(fault) => Err(fault),

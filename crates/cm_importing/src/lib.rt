@@ -5,7 +5,10 @@ mod fault;
 mod feed;
 mod group;
 mod importing;
+mod named;
+mod outcome;
 
 pub use fault::ImportFault;
 pub use feed::Feed;
 pub use importing::import;
+pub use outcome::Outcome;

@@ -1,7 +1,7 @@
 //! Classes to import.
 
-use cm_commands::Prepared;
-use cm_samples::class;
+use cm_commands::{Prepared, prepare};
+use cm_samples::{class, padded_class_file};
 use std::alloc::Global;
 use std::test::*;
 
@@ -20,5 +20,13 @@ pub fn many_classes(alloc: Global, count: u8) -> Result<Vec<Prepared>, Fail> {
     for at in 0..count {
         classes.push(class(alloc, &[b'a' + at / 16, b'A' + at % 16])?)?;
     }
+    Ok(classes)
+}
+
+/// A class `A` with an attribute, and the one without.
+pub fn two_of_a_name(alloc: Global) -> Result<Vec<Prepared>, Fail> {
+    let mut classes = Vec::new(alloc);
+    classes.push(prepare(alloc, &padded_class_file(alloc, b"A", 8)?)?)?;
+    classes.push(class(alloc, b"A")?)?;
     Ok(classes)
 }

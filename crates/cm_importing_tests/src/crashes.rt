@@ -46,10 +46,12 @@ fn is_continued(first: &Run, next: &Run) -> bool {
     let Told {
         stored,
         there,
+        changed,
         refused,
     } = next.told;
     next.result == Ok(COUNT + 1)
         && first.told.stored <= there
+        && changed == 0
         && refused == 0
         && there.checked_add(stored) == Some(COUNT)
 }

@@ -3,8 +3,8 @@
 ghost use Rattle.std.specs.Prelude.{length, None};
 
 use crate::classes::classes;
-use cm_commands::{Prepared, Refusal};
-use cm_importing::Feed;
+use cm_commands::Prepared;
+use cm_importing::{Feed, Outcome};
 use std::alloc::{AllocError, Global};
 use std::test::*;
 use std::thread::Threads;
@@ -14,17 +14,20 @@ use std::thread::Threads;
 pub struct Told {
     pub stored: u64,
     pub there: u64,
+    pub changed: u64,
     pub refused: u64,
 }
 
 impl Told {
-    /// Counts one more answer.
-    fn add(&mut self, answer: &Result<u64, Refusal>) {
-        match answer {
-            Ok(_) => self.stored = self.stored.saturating_add(1),
-            Err(Refusal::ClassExists) => self.there = self.there.saturating_add(1),
-            Err(_) => self.refused = self.refused.saturating_add(1),
-        }
+    /// Counts one more class.
+    fn add(&mut self, outcome: Outcome) {
+        let count = match outcome {
+            Outcome::Stored(_) => &mut self.stored,
+            Outcome::There => &mut self.there,
+            Outcome::Changed => &mut self.changed,
+            Outcome::Refused(_) => &mut self.refused,
+        };
+        *count = count.saturating_add(1);
     }
 }
 
@@ -52,6 +55,7 @@ impl Groups {
         let told = Told {
             stored: 0,
             there: 0,
+            changed: 0,
             refused: 0,
         };
         Groups { left, told }
@@ -81,9 +85,9 @@ impl Feed for Groups {
         Ok(self.left.pop())
     }
 
-    fn tell(&mut self, answers: &[Result<u64, Refusal>]) {
-        for answer in answers {
-            self.told.add(answer);
+    fn tell(&mut self, outcomes: &[Outcome]) {
+        for outcome in outcomes {
+            self.told.add(*outcome);
         }
     }
 }

@@ -1,6 +1,6 @@
 //! Imports that nothing disturbs, and those that can't begin.
 
-use crate::classes::many_classes;
+use crate::classes::{many_classes, two_of_a_name};
 use crate::groups::{Groups, Told};
 use cm_commands::Refusal;
 use cm_disk::{Disk, SimDisk};
@@ -47,6 +47,7 @@ fn told(stored: u64, there: u64) -> Told {
     Told {
         stored,
         there,
+        changed: 0,
         refused: 0,
     }
 }
@@ -101,6 +102,26 @@ fn an_import_that_cannot_begin_asks_for_no_class(rt: HostRuntime) -> Result<(), 
     Ok(())
 }
 
+/// The class A with an attribute in place of class A, and class A once more.
+#[test]
+fn a_class_that_changed_stays_as_it_was(rt: HostRuntime) -> Result<(), Fail> {
+    let alloc = rt.alloc();
+    let (result, first, disk) = import_groups(&rt, &[b"AB"], new_disk(alloc)?)?;
+    assert_eq!(rt; (result, first), (Ok(3), told(2, 0)));
+    let mut left = Vec::new(alloc);
+    left.push(two_of_a_name(alloc)?)?;
+    let mut groups = Groups::of(left);
+    let (result, _disk) = import(&rt, alloc, b"app", &mut groups, disk, 2);
+    let wanted = Told {
+        stored: 0,
+        there: 1,
+        changed: 1,
+        refused: 0,
+    };
+    assert_eq!(rt; (result, groups.told()), (Ok(3), wanted));
+    Ok(())
+}
+
 /// Half of 256 slots may be live: those of the loader and of 127 classes.
 #[test]
 fn classes_for_which_there_is_no_room_are_refused(rt: HostRuntime) -> Result<(), Fail> {
@@ -112,6 +133,7 @@ fn classes_for_which_there_is_no_room_are_refused(rt: HostRuntime) -> Result<(),
     let wanted = Told {
         stored: 127,
         there: 0,
+        changed: 0,
         refused: 13,
     };
     assert_eq!(rt; (result, groups.told()), (Ok(128), wanted));

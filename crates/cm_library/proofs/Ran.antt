@@ -53,21 +53,22 @@ module _ {D : Type 0} (view : View D) where
       subst (λ d. IsNotBegun view begun e.fault d) (sym disk)
       (subst (λ f. IsNotOpened view begun n.disk f) (sym fault) is)
 
-  module _ (inside committer : CommitterState D) (same : inside ≡ committer) where
+  module _ (inside committer : CommitterState D) (same : inside ≡ committer) (drawn : ℕ) where
     of_opened : (Keeps : List PassState → Type 0) (counts : Counts) (disk begun : D)
         (is : IsOpened view begun inside)
-        → Closes view Keeps (base_of inside) (view.failures inside.disk) counts disk
-        → Closes view Keeps (base_in is.opens.standing) (view.failures begun) counts disk
+        → Closes view Keeps (base_of inside) (view.failures inside.disk) drawn counts disk
+        → Closes view Keeps (base_in is.opens.standing) (view.failures begun) drawn counts disk
     of_opened Keeps counts disk begun is h =
-        subst (λ (n : ℕ). Closes view Keeps (base_in is.opens.standing) n counts disk)
+        subst (λ (n : ℕ). Closes view Keeps (base_in is.opens.standing) n drawn counts disk)
         is.failures_are
-        (subst (λ (b : Base). Closes view Keeps b (view.failures inside.disk) counts disk)
+        (subst (λ (b : Base). Closes view Keeps b (view.failures inside.disk) drawn counts disk)
         is.base_is h)
 
     -- work was done on it
     pub ran : (Keeps : List PassState → Type 0) (counts : Counts) (disk : D)
-        → Closes view Keeps (base_of inside) (view.failures inside.disk) counts disk
-        → (begun : D) → IsOpened view begun committer → RunsWork view Keeps begun counts disk
+        → Closes view Keeps (base_of inside) (view.failures inside.disk) drawn counts disk
+        → (begun : D) → IsOpened view begun committer
+        → RunsWork view Keeps drawn begun counts disk
     ran Keeps counts disk h = λ begun is.
         let was = subst (λ (c : CommitterState D). IsOpened view begun c) (sym same) is in
         record {
@@ -78,8 +79,8 @@ module _ {D : Type 0} (view : View D) where
     pub runs : {T E : Type 0} (keeps : T → List PassState → Type 0)
         (result : Result (Finished T D) E)
         → IfOk result (λ f. Closes view (keeps f.output) (base_of inside)
-        (view.failures inside.disk) f.counts f.disk)
+        (view.failures inside.disk) drawn f.counts f.disk)
         → IfOk result (λ f. (begun : D) → IsOpened view begun committer
-        → RunsWork view (keeps f.output) begun f.counts f.disk)
+        → RunsWork view (keeps f.output) drawn begun f.counts f.disk)
     runs keeps (Ok f) h = ran (keeps f.output) f.counts f.disk h
     runs keeps (Err e) h = tt

@@ -3,8 +3,7 @@
 ghost use Rattle.std.specs.Prelude.{◌<◌, IfOk, IfErr};
 ghost use Rattle.cm_library.specs.Running.{IsOpened, IsNotOpened};
 
-use cm_cache::opened_may_start;
-use cm_commit::Committer;
+use cm_cache::{NewStorage, opened_may_start};
 use cm_disk::Disk;
 use cm_front::Front;
 use cm_recover::{NotOpened, open_in_threads};
@@ -19,7 +18,7 @@ use std::thread::Threads;
 #[derive(Drop)]
 pub struct Opened<D: Disk> {
     pub(crate) front: Front,
-    pub(crate) committer: Committer<D>,
+    pub(crate) storage: NewStorage<D>,
 }
 
 impl<D: Disk> Model for Opened<D> {
@@ -28,10 +27,10 @@ impl<D: Disk> Model for Opened<D> {
 
     ghost Value = { CommitterState D };
 
-    ghost view = { λ o. o.committer };
+    ghost view = { λ o. o.storage };
 
-    ghost invariant = { λ o. MayStart (base_of o.committer)
-        (D.view.failures o.committer.disk) D.view.failures o.front o.committer };
+    ghost invariant = { λ o. MayStart (base_of o.storage)
+        (D.view.failures o.storage.disk) D.view.failures o.front o.storage };
 }
 
 /// Opens the cache on a disk. This many threads check the records on the disk.
@@ -49,7 +48,10 @@ where
     match open_in_threads(rt, alloc, disk, threads) {
         Ok((front, committer)) => {
             opened_may_start(&front, &committer);
-            Ok(Opened { front, committer })
+            Ok(Opened {
+                front,
+                storage: NewStorage::new(committer),
+            })
         }
         Err(not_opened) => Err(not_opened),
     }

@@ -1,19 +1,18 @@
 //! A cache that is used and closed.
 
-ghost use Rattle.std.specs.Prelude.{◌≡◌, ◌<◌, Some, None, IfOk, IfErr};
-ghost use Rattle.std.specs.List.{All, AllZip};
+ghost use Rattle.std.specs.Prelude.{◌≡◌, ◌<◌, ◌≤◌, Some, None, IfOk, IfErr, vec_len};
+ghost use Rattle.std.specs.List.{All};
 ghost use Rattle.cm_verdict.specs.declared.fault.OpenFault.TheVariants as open_fault;
 ghost use Rattle.cm_cache.specs.Shared.{most_passes};
 ghost use Rattle.cm_cache.specs.Starting.{Belongs, MayStart};
 ghost use Rattle.cm_library.specs.Running.{RunsWork, Closes, HasClosed, IsNotBegun};
-ghost use Rattle.cm_library.specs.Running.{KeepsAlone};
+ghost use Rattle.cm_library.specs.Running.{KeepsAlone, KeepsWorks, passes_for};
 
 use crate::counts::Counts;
 use crate::opening::{Opened, open};
 use crate::work::{Work, work_alone, work_in_threads};
-use cm_cache::{Cache, Closed, Flusher, Naming, NewCache, Pass};
+use cm_cache::{Cache, Closed, Flusher, MOST_PASSES, Naming, NewCache, NewStorage, Pass};
 use cm_commands::Refusal;
-use cm_commit::Committer;
 use cm_disk::Disk;
 use cm_front::Front;
 use cm_recover::NotOpened;
@@ -87,15 +86,14 @@ pub fn with_cache<R, D, W>(
     disk: D,
     threads: usize,
     work: W,
-) -> Result<Finished<Result<W::Output, Refusal>, D>, NotRun<D, W>>
+) -> Result<Finished<W::Output, D>, NotRun<D, W>>
 where
     R: Threads + Wait + Copy + Send + Sync + 'static,
     D: Disk + Drop + Send + 'static,
     W: Work<R> + Drop,
     requires threads { 0 < threads }
     requires may_run { W.may_run work }
-    ensures ran { IfOk result (λ f. RunsWork D.view
-        (λ passes. IfOk f.output (λ output. KeepsAlone W.keeps output passes))
+    ensures ran { IfOk result (λ f. RunsWork D.view (KeepsAlone (W.keeps work) f.output) 1
         disk f.counts f.disk) }
     ensures fault { IfErr result (λ e. IsNotBegun D.view disk e.fault e.disk) }
     ensures work { IfErr result (λ e. e.work ≡ work) }
@@ -129,7 +127,7 @@ where
     requires threads { 0 < threads }
     requires may_run { All W.may_run works.items }
     ensures ran { IfOk result (λ f. RunsWork D.view
-        (λ passes. IfOk f.output (λ outputs. AllZip W.keeps outputs.items passes))
+        (KeepsWorks W.keeps works f.output) (passes_for (vec_len works))
         disk f.counts f.disk) }
     ensures fault { IfErr result (λ e. IsNotBegun D.view disk e.fault e.disk) }
     ensures works { IfErr result (λ e. e.work ≡ works) }
@@ -145,8 +143,9 @@ where
 
 impl<D: Disk + Drop + Send + 'static> Opened<D> {
     ghost use Rattle.std.specs.Prelude.{◌≡◌, IfOk, IfErr};
-    ghost use Rattle.std.specs.List.{All, AllZip};
-    ghost use Rattle.cm_library.specs.Running.{RunsWork, IsOpened, KeepsAlone};
+    ghost use Rattle.std.specs.List.{All};
+    ghost use Rattle.cm_library.specs.Running.{RunsWork, IsOpened, KeepsAlone, KeepsWorks};
+    ghost use Rattle.cm_library.specs.Running.{passes_for};
 
     /// Does the work with the cache, and closes it. Another thread stores what is accepted; closing
     /// waits until all of that is stored, unless the device fails.
@@ -155,9 +154,6 @@ impl<D: Disk + Drop + Send + 'static> Opened<D> {
     /// oldest of them are, as many as the counts say, and each later one may be there or not once
     /// the disk is opened again, but none without those before it.
     ///
-    /// The output is what the work returned, or a refusal if the cache has no pass for it
-    /// (`NoMemory` if an allocation failed for it): then the work wasn't begun.
-    ///
     /// # Errors
     /// [`NotStarted`], with the work as it was. No command was accepted.
     pub fn run<R, W>(
@@ -165,20 +161,18 @@ impl<D: Disk + Drop + Send + 'static> Opened<D> {
         rt: &R,
         alloc: Global,
         work: W,
-    ) -> Result<Finished<Result<W::Output, Refusal>, D>, NotStarted<W>>
+    ) -> Result<Finished<W::Output, D>, NotStarted<W>>
     where
         R: Threads + Wait + Copy + Send + Sync + 'static,
         W: Work<R> + Drop,
         requires may_run { W.may_run work }
         ensures ran { IfOk result (λ f. (begun : D) → IsOpened D.view begun self
-            → RunsWork D.view
-            (λ passes. IfOk f.output (λ output. KeepsAlone W.keeps output passes))
-            begun f.counts f.disk) }
+            → RunsWork D.view (KeepsAlone (W.keeps work) f.output) 1 begun f.counts f.disk) }
         ensures work { IfErr result (λ e. e.work ≡ work) }
     {
-        let Opened { front, committer } = self;
-        match NewCache::new(alloc, committer.number()) {
-            Ok(new) => run_alone::<Brand, R, D, W>(rt, alloc, new, front, committer, work),
+        let Opened { front, storage } = self;
+        match NewCache::new(alloc, storage.number(), 1) {
+            Ok(new) => run_alone::<Brand, R, D, W>(rt, alloc, new, front, storage, work),
             Err(_) => Err(NotStarted { work }),
         }
     }
@@ -186,9 +180,10 @@ impl<D: Disk + Drop + Send + 'static> Opened<D> {
     /// Does each work with the cache in a thread of its own, and closes it, as [`Opened::run`] does
     /// for one work in the caller's thread.
     ///
-    /// The outputs are in the order of the works; in their place a refusal if an allocation failed
-    /// (`NoMemory`), or if there are more than 65,536 works (`NumbersSpent`). Works may then have
-    /// been done whose output is lost, and the counts say so: their passes are missing.
+    /// The outputs are in the order of the works. In their place is a refusal if there are more
+    /// than 65,536 works (`NumbersSpent`), of which none is then done, or if an allocation failed
+    /// (`NoMemory`): works may then have been done whose output is lost, and the counts say so:
+    /// their passes are missing.
     ///
     /// # Errors
     /// As of [`Opened::run`].
@@ -205,13 +200,13 @@ impl<D: Disk + Drop + Send + 'static> Opened<D> {
         requires may_run { All W.may_run works.items }
         ensures ran { IfOk result (λ f. (begun : D) → IsOpened D.view begun self
             → RunsWork D.view
-            (λ passes. IfOk f.output (λ outputs. AllZip W.keeps outputs.items passes))
-            begun f.counts f.disk) }
+            (KeepsWorks W.keeps works f.output)
+            (passes_for (vec_len works)) begun f.counts f.disk) }
         ensures works { IfErr result (λ e. e.work ≡ works) }
     {
-        let Opened { front, committer } = self;
-        match NewCache::new(alloc, committer.number()) {
-            Ok(new) => run_each::<Brand, R, D, W>(rt, alloc, new, front, committer, works),
+        let Opened { front, storage } = self;
+        match NewCache::new(alloc, storage.number(), passes_needed(works.len())) {
+            Ok(new) => run_each::<Brand, R, D, W>(rt, alloc, new, front, storage, works),
             Err(_) => Err(NotStarted { work: works }),
         }
     }
@@ -244,32 +239,41 @@ fn not_run<D, W>(work: W) -> NotRun<D, W>
     }
 }
 
+// With how many passes a cache is started for these works: one for each, none if they are too many.
+fn passes_needed(works: usize) -> u64
+    ensures value { result ≡ passes_for works }
+    ensures few { result ≤ most_passes }
+{
+    let works = works as u64;
+    if works <= MOST_PASSES { works } else { 0 }
+}
+
 // Starts a cache that was just opened, does the work in this thread, and closes it.
 fn run_alone<K, R, D, W>(
     rt: &R,
     alloc: Global,
     new: NewCache,
     front: Front,
-    committer: Committer<D>,
+    storage: NewStorage<D>,
     work: W,
-) -> Result<Finished<Result<W::Output, Refusal>, D>, NotStarted<W>>
+) -> Result<Finished<W::Output, D>, NotStarted<W>>
 where
     K: Naming + Send + Sync + 'static,
     R: Threads + Wait + Copy + Send + Sync + 'static,
     D: Disk + Drop + Send + 'static,
     W: Work<R> + Drop,
     requires may_run { W.may_run work }
-    requires new { Belongs K.base K.channel K.board K.name K.parts new }
-    requires opened { MayStart K.base K.failed D.view.failures front committer }
-    ensures ran { IfOk result (λ f. Closes D.view
-        (λ passes. IfOk f.output (λ output. KeepsAlone W.keeps output passes))
-        K.base K.failed f.counts f.disk) }
+    requires one { K.passes ≡ 1 }
+    requires new { Belongs K.base K.channel K.board K.name K.parts K.passes new }
+    requires opened { MayStart K.base K.failed D.view.failures front storage }
+    ensures ran { IfOk result (λ f. Closes D.view (KeepsAlone (W.keeps work) f.output)
+        K.base K.failed 1 f.counts f.disk) }
     ensures work { IfErr result (λ e. e.work ≡ work) }
 {
-    let Ok((cache, flusher)) = Cache::<K>::start(rt, alloc, new, front, committer) else {
+    let Ok(started) = Cache::<K>::start(rt, alloc, new, front, storage) else {
         return Err(NotStarted { work });
     };
-    let mut passes = Vec::new(alloc);
+    let (cache, flusher, mut passes) = started;
     let output = work_alone(rt, alloc, &cache, work, &mut passes);
     let (counts, disk) = close(rt, cache, flusher, passes);
     Ok(Finished {
@@ -285,7 +289,7 @@ fn run_each<K, R, D, W>(
     alloc: Global,
     new: NewCache,
     front: Front,
-    committer: Committer<D>,
+    storage: NewStorage<D>,
     works: Vec<W>,
 ) -> Result<Finished<Result<Vec<W::Output>, Refusal>, D>, NotStarted<Vec<W>>>
 where
@@ -295,18 +299,20 @@ where
     W: Work<R> + Drop + Send,
     W::Output: Drop + Send,
     requires may_run { All W.may_run works.items }
-    requires new { Belongs K.base K.channel K.board K.name K.parts new }
-    requires opened { MayStart K.base K.failed D.view.failures front committer }
+    requires enough { K.passes ≡ passes_for (vec_len works) }
+    requires new { Belongs K.base K.channel K.board K.name K.parts K.passes new }
+    requires opened { MayStart K.base K.failed D.view.failures front storage }
     ensures ran { IfOk result (λ f. Closes D.view
-        (λ passes. IfOk f.output (λ outputs. AllZip W.keeps outputs.items passes))
-        K.base K.failed f.counts f.disk) }
+        (KeepsWorks W.keeps works f.output)
+        K.base K.failed (passes_for (vec_len works)) f.counts f.disk) }
     ensures works { IfErr result (λ e. e.work ≡ works) }
 {
-    let Ok((cache, flusher)) = Cache::<K>::start(rt, alloc, new, front, committer) else {
+    let Ok(started) = Cache::<K>::start(rt, alloc, new, front, storage) else {
         return Err(NotStarted { work: works });
     };
+    let (cache, flusher, drawn) = started;
     let mut passes = Vec::new(alloc);
-    let output = work_in_threads(rt, alloc, &cache, works, &mut passes);
+    let output = work_in_threads(rt, alloc, &cache, works, drawn, &mut passes);
     let (counts, disk) = close(rt, cache, flusher, passes);
     Ok(Finished {
         output,
@@ -327,7 +333,7 @@ where
     R: Threads + Wait,
     D: Disk + Drop + Send + 'static,
     requires { K.parts ≡ most_passes }
-    ensures { HasClosed D.view K.base K.failed passes.items result.0 result.1 }
+    ensures { HasClosed D.view K.base K.failed K.passes passes.items result.0 result.1 }
 {
     let Closed {
         handed,

@@ -1,9 +1,10 @@
 //! What a program does with a running cache.
 
-ghost use Rattle.std.specs.Prelude.{◌≡◌, [], IfOk, OnOk, map};
-ghost use Rattle.std.specs.List.{All, AllZip};
+ghost use Rattle.std.specs.Prelude.{◌≡◌, [], IfOk, OnOk, length, map, vec_len};
+ghost use Rattle.std.specs.List.{All, zip};
 ghost use Rattle.cm_cache.specs.Shared.{PassState};
-ghost use Rattle.cm_library.specs.Running.{KeepsAlone};
+ghost use Rattle.cm_library.specs.Running.{EachTwo, KeepsAlone, KeepsEach, KeepsWorks};
+ghost use Rattle.cm_library.specs.Running.{passes_for};
 
 use cm_cache::{Cache, Naming, Pass};
 use cm_commands::Refusal;
@@ -20,8 +21,8 @@ pub trait Work<R> {
     /// What holds before it is done.
     ghost may_run: { Self → Type 0 };
 
-    /// What holds of its output, and of the pass after it.
-    ghost keeps: { Self.Output → PassState → Type 0 };
+    /// What holds of the work, of its output, and of the pass after it.
+    ghost keeps: { Self → Self.Output → PassState → Type 0 };
 
     /// Does the work. The pass is the thread's own: calls that change the cache are made through
     /// it. `K` names the cache.
@@ -33,7 +34,7 @@ pub trait Work<R> {
         pass: &mut Pass<K>,
     ) -> Self::Output
         requires { may_run self }
-        ensures { keeps result pass.new };
+        ensures { keeps self result pass.new };
 }
 
 // A work, with the pass for it.
@@ -50,35 +51,32 @@ struct Done<K: Naming, T: Drop> {
     pass: Pass<K>,
 }
 
-/// Does a work in this thread, and puts its pass back.
+/// Does a work in this thread, through the only pass.
 pub(crate) fn work_alone<K, R, W>(
     rt: &R,
     alloc: Global,
     cache: &Cache<K>,
     work: W,
     passes: &mut Vec<Pass<K>>,
-) -> Result<W::Output, Refusal>
+) -> W::Output
 where
     K: Naming,
     R: Wait,
-    W: Work<R> + Drop,
+    W: Work<R>,
     requires may_run { W.may_run work }
-    requires none { passes.old.items ≡ [] }
-    ensures { IfOk result (λ output. KeepsAlone W.keeps output passes.new.items) }
+    requires one { length passes.old.items ≡ 1 }
+    ensures { KeepsAlone (W.keeps work) result passes.new.items }
 {
-    let pass = cache.pass(rt)?;
-    if passes.push(pass).is_err() {
-        return Err(Refusal::NoMemory);
-    }
-    Ok(work.run(rt, alloc, cache, &mut passes[0]))
+    work.run(rt, alloc, cache, &mut passes[0])
 }
 
-/// Does each work in a thread of its own, and puts the passes back.
+/// Does each work in a thread of its own, through a pass of its own, and puts the passes back.
 pub(crate) fn work_in_threads<K, R, W>(
     rt: &R,
     alloc: Global,
     cache: &Cache<K>,
     works: Vec<W>,
+    drawn: Vec<Pass<K>>,
     passes: &mut Vec<Pass<K>>,
 ) -> Result<Vec<W::Output>, Refusal>
 where
@@ -87,31 +85,58 @@ where
     W: Work<R> + Drop + Send,
     W::Output: Drop + Send,
     requires may_run { All W.may_run works.items }
+    requires enough { length drawn.items ≡ passes_for (vec_len works) }
     requires none { passes.old.items ≡ [] }
-    ensures { IfOk result (λ outputs. AllZip W.keeps outputs.items passes.new.items) }
+    ensures { KeepsWorks W.keeps works result passes.new.items }
 {
-    let workers = workers(rt, alloc, cache, works)?;
-    let all = do_all(rt, alloc, cache, workers)?;
-    Ok(put_back(alloc, all, passes)?)
+    if drawn.len() < works.len() {
+        return Err(Refusal::NumbersSpent);
+    }
+    match do_works(rt, alloc, cache, works, drawn, passes) {
+        Ok(outputs) => Ok(outputs),
+        Err(_) => Err(Refusal::NoMemory),
+    }
 }
 
-// A pass for each work.
-fn workers<K: Naming, R: Wait, W: Drop>(
+// The same, if there is a pass for each work.
+fn do_works<K, R, W>(
     rt: &R,
     alloc: Global,
     cache: &Cache<K>,
     works: Vec<W>,
-) -> Result<Vec<Worker<K, W>>, Refusal>
-    ensures { IfOk result (λ all. map (λ worker. worker.work) all.items ≡ works.items) }
+    drawn: Vec<Pass<K>>,
+    passes: &mut Vec<Pass<K>>,
+) -> Result<Vec<W::Output>, AllocError>
+where
+    K: Naming + Send + Sync,
+    R: Threads + Wait + Sync,
+    W: Work<R> + Drop + Send,
+    W::Output: Drop + Send,
+    requires may_run { All W.may_run works.items }
+    requires enough { length works.items ≡ length drawn.items }
+    requires none { passes.old.items ≡ [] }
+    ensures { IfOk result
+        (λ outputs. KeepsEach W.keeps works.items outputs.items passes.new.items) }
 {
-    let mut workers = Vec::new(alloc);
-    for work in works {
-        let pass = cache.pass(rt)?;
-        if workers.push(Worker { work, pass }).is_err() {
-            return Err(Refusal::NoMemory);
-        }
-    }
-    Ok(workers)
+    let workers = workers(alloc, works, drawn)?;
+    let all = do_all(rt, alloc, cache, workers)?;
+    put_back(alloc, all, passes)
+}
+
+// A pass for each work.
+fn workers<K: Naming, W: Drop>(
+    alloc: Global,
+    works: Vec<W>,
+    passes: Vec<Pass<K>>,
+) -> Result<Vec<Worker<K, W>>, AllocError>
+    ensures { IfOk result (λ all. all.items
+        ≡ map (λ p. record { work = p.0; pass = p.1 }) (zip works.items passes.items)) }
+{
+    works
+        .into_iter()
+        .zip(passes)
+        .map(|(work, pass)| Worker { work, pass })
+        .collect(alloc)
 }
 
 // A thread for each.
@@ -127,14 +152,15 @@ where
     W: Work<R> + Drop + Send,
     W::Output: Drop + Send,
     requires { All (λ worker. W.may_run worker.work) workers.items }
-    ensures { IfOk result (λ all. All (λ done. W.keeps done.output done.pass) all.items) }
+    ensures { IfOk result (λ all. EachTwo
+        (λ worker done. W.keeps worker.work done.output done.pass) workers.items all.items) }
 {
     thread::map_vec(
         rt,
         workers,
         &|worker| -> Done<K, W::Output>
             requires { W.may_run worker.work }
-            ensures { W.keeps result.output result.pass }
+            ensures { W.keeps worker.work result.output result.pass }
         {
             let Worker { work, mut pass } = worker;
             let output = work.run(rt, alloc, cache, &mut pass);

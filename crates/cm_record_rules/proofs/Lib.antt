@@ -5,7 +5,6 @@ mod ConstantsThere
 mod TextRuns
 mod Whole
 mod Iterators
-mod Counted
 mod Slots
 mod Filled
 mod FirstMembers

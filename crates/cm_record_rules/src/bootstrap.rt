@@ -6,9 +6,8 @@ ghost use Rattle.cm_attributes.specs.Contents.{bootstrap_count as bootstrap_coun
 use crate::contents::is_content;
 use crate::known::first_place;
 use crate::laid::LaidClass;
-use crate::numbers::read_u2;
 use crate::parts::{skip_arguments, skip_one};
-use cm_attributes::Known;
+use cm_attributes::{Known, read_u2};
 use cm_class::{Attribute, Kind};
 
 /// The bytes after a method handle, a count and that many arguments.

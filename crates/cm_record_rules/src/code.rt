@@ -1,11 +1,11 @@
 //! The content of a Code (JVMS 4.7.3).
-ghost use Rattle.std.specs.Prelude.{◌≡◌, option_copied, option_map};
+ghost use Rattle.std.specs.Prelude.{◌≡◌, option_copied};
 ghost use Rattle.cm_attributes.specs.Contents.{handler_of, is_handler, past_handler};
-ghost use Rattle.cm_attributes.specs.Contents.{past_attribute, past_counted, code_of, past_code};
+ghost use Rattle.cm_attributes.specs.Contents.{past_attribute, past_counted, past_code};
 
 use crate::laid::LaidClass;
-use crate::numbers::{read_u2, read_u4, skip};
 use crate::parts::{skip_one, skip_two_numbers};
+use cm_attributes::{read_code, read_u2, read_u4, skip};
 use cm_class::Kind;
 
 /// The bytes after a handler, which covers some of the code's bytes, is within them, and catches a
@@ -58,19 +58,6 @@ fn skip_attributes<'b>(class: &LaidClass, bytes: &'b [u8]) -> Option<&'b [u8]>
         rest = skip_attribute(class, rest)?;
     }
     Some(rest)
-}
-
-/// How many bytes the code has, 1 to 65,535, and the bytes after them.
-#[tactic(auto, unfolding(cm_attributes::specs::Contents::code_of))]
-fn read_code(bytes: &[u8]) -> Option<(u32, &[u8])>
-    ensures { option_map (λ x. (x.0, x.1.now)) result ≡ code_of bytes.now }
-{
-    let (size, rest) = read_u4(bytes)?;
-    if !(0 < size && size <= 65535) {
-        return None;
-    }
-    let rest = skip(size as usize, rest)?;
-    Some((size, rest))
 }
 
 /// The bytes after stack, locals, code, handlers and attributes.

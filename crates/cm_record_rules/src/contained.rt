@@ -9,12 +9,12 @@ ghost use Rattle.cm_constraints.specs.Attributes.{bootstrap_attribute_is_right};
 
 use crate::attributes::LaidAttributes;
 use crate::contents::{is_content, is_value_of};
-use crate::flags::{ACC_STATIC, has};
 use crate::known::{count, first_place, is_known};
 use crate::laid::LaidClass;
 use crate::members::LaidMember;
 use cm_attributes::Known;
 use cm_class::Attribute;
+use cm_constraints::{ACC_STATIC, has};
 
 const OF_FIELD: [Known; 4] = [
     Known::ConstantValue,

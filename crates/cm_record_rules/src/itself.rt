@@ -4,10 +4,9 @@ ghost use Rattle.std.specs.List.{list_all};
 ghost use Rattle.cm_constraints.specs.Itself.{this_is_no_array, super_is_right};
 ghost use Rattle.cm_rules.specs.Kept.{this_keeps, super_keeps, interface_keeps};
 
-use crate::flags::{ACC_INTERFACE, has};
 use crate::laid::LaidClass;
 use cm_class::Kind;
-use cm_constraints::class_flags_agree;
+use cm_constraints::{ACC_INTERFACE, class_flags_agree, has};
 use cm_descriptors::begins_with;
 
 const OBJECT: &[u8] = b"java/lang/Object";

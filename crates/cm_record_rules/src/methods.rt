@@ -9,13 +9,13 @@ ghost use Rattle.cm_rules.specs.Kept.{method_keeps};
 use crate::contained::method_attributes_are_right;
 use crate::contents::is_content;
 use crate::fields::names_utf8s;
-use crate::flags::{
-    ACC_ABSTRACT, ACC_NATIVE, ACC_STATIC, constructor_flags_agree, has, method_flags_agree,
-};
 use crate::known::{count, is_known};
 use crate::laid::LaidClass;
 use crate::members::LaidMember;
 use cm_attributes::Known;
+use cm_constraints::{
+    ACC_ABSTRACT, ACC_NATIVE, ACC_STATIC, constructor_flags_agree, has, method_flags_agree,
+};
 
 /// Whether a method has a method's name and descriptor (JVMS 4.6).
 fn method_is_named(class: &LaidClass, method: &LaidMember) -> bool

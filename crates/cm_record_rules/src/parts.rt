@@ -8,7 +8,7 @@ ghost use Rattle.cm_attributes.specs.Contents.{exception, inner_class, past_part
 ghost use Rattle.cm_record_rules.specs.Parts.{past_test, past_tests, any};
 
 use crate::laid::LaidClass;
-use crate::numbers::read_u2;
+use cm_attributes::read_u2;
 use cm_class::{Constant, Kind};
 
 /// The bytes after the index of a constant of this kind.

@@ -1,8 +1,9 @@
 //! The disk of a region file.
 ghost use Rattle.std.specs.Prelude.{◌≡◌, length, IfOk};
 ghost use Rattle.cm_device_disk.specs.DeviceDisk.{disk_contents};
+ghost use Rattle.cm_region_disk.specs.Opening.{IsWithoutRecords, HasRecords};
 
-use cm_device_disk::{Device, DeviceDisk, OpenedDevice, ReadError, WordsAhead};
+use cm_device_disk::{Device, DeviceDisk, HeldDisk, OpenedDevice, ReadError, WordsAhead};
 use cm_disk::WordRange;
 use cm_verdict::{OpenFault, bytes_before_roots, record_ranges};
 use std::alloc::Global;
@@ -21,7 +22,8 @@ pub fn disk_of<V: Device<Fault = F>, F: Copy>(
     alloc: Global,
     opened: OpenedDevice<V>,
 ) -> Result<DeviceDisk<V, F>, ReadError<F>>
-    ensures { IfOk result (λ d. length (disk_contents d) ≡ opened.len) }
+    ensures len { IfOk result (λ d. length (disk_contents d) ≡ opened.len) }
+    ensures read { IfOk result (HasRecords opened) }
 {
     let (disk, ranges) = disk_without_records(alloc, opened)?;
     disk.read_words(alloc, &ranges, WordsAhead::none(alloc))
@@ -37,13 +39,17 @@ pub fn disk_without_records<V: Device<Fault = F>, F: Copy>(
     alloc: Global,
     opened: OpenedDevice<V>,
 ) -> Result<(DeviceDisk<V, F>, Vec<WordRange>), ReadError<F>>
-    ensures { IfOk result (λ p. length (disk_contents p.0) ≡ opened.len) }
+    ensures len { IfOk result (λ p. length (disk_contents p.0) ≡ opened.len) }
+    ensures read { IfOk result (λ p. IsWithoutRecords opened p.0 p.1.items) }
 {
     let reach = bytes_before_roots(opened.beginning());
-    let mut disk = DeviceDisk::of_opened(opened.read_on(alloc, reach)?);
-    match record_ranges(alloc, &mut disk) {
+    let disk = DeviceDisk::of_opened(opened.read_on(alloc, reach)?);
+    // They are found in what it holds, so the disk itself stays as it is.
+    match record_ranges(alloc, &mut HeldDisk::of(&disk)) {
         Ok(ranges) => Ok((disk, ranges)),
-        Err(OpenFault::NoMemory) => Err(ReadError::NoMemory),
-        Err(_) => Ok((disk, Vec::new(alloc))),
+        Err(fault) => match fault {
+            OpenFault::NoMemory => Err(ReadError::NoMemory),
+            _ => Ok((disk, Vec::new(alloc))),
+        },
     }
 }

@@ -3,7 +3,6 @@ ghost use Rattle.std.specs.Prelude.{◌<◌, vec_len};
 ghost use Rattle.cm_pool.specs.Held.{AreHeld};
 
 use cm_pool::{Chunk, Pool};
-use cm_pool_list::ListPool;
 use std::alloc::AllocError;
 
 // Takes the first chunk of an order, and holds it.
@@ -24,37 +23,6 @@ pub fn hold(pool: &mut Pool, held: &mut Vec<Chunk>, order: u32) -> Result<Option
 
 // Gives back a chunk that was held.
 pub fn give_held(pool: &mut Pool, held: &mut Vec<Chunk>, at: usize) -> Chunk
-    requires held { AreHeld pool.old held.old.items }
-    requires at { at < vec_len held.old }
-    ensures held { AreHeld pool.new held.new.items }
-    ensures len { vec_len held.new < vec_len held.old }
-{
-    let chunk = held.remove(at);
-    pool.give(chunk);
-    chunk
-}
-
-// The same for the pool with a sorted list.
-pub fn hold_listed(
-    pool: &mut ListPool,
-    held: &mut Vec<Chunk>,
-    order: u32,
-) -> Result<Option<Chunk>, AllocError>
-    requires { AreHeld pool.old held.old.items }
-    ensures { AreHeld pool.new held.new.items }
-{
-    held.reserve(1)?;
-    if order > pool.geometry().top() {
-        return Ok(None);
-    }
-    let Some(chunk) = pool.alloc(order) else {
-        return Ok(None);
-    };
-    held.push(chunk).unwrap();
-    Ok(Some(chunk))
-}
-
-pub fn give_listed(pool: &mut ListPool, held: &mut Vec<Chunk>, at: usize) -> Chunk
     requires held { AreHeld pool.old held.old.items }
     requires at { at < vec_len held.old }
     ensures held { AreHeld pool.new held.new.items }

@@ -1,10 +1,12 @@
-//! Tests of word buffers, of both bodies of a pool, of arenas and of spaces.
+//! Tests of word buffers, of the pool beside a plain one, of arenas and of spaces.
 #![tactic(auto)]
 
 #[cfg(test)]
 mod arenas;
 #[cfg(test)]
 mod held_chunks;
+#[cfg(test)]
+mod plain_pool;
 #[cfg(test)]
 mod pool_bodies;
 #[cfg(test)]

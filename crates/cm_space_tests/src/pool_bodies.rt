@@ -1,41 +1,39 @@
-// The pool with rows of bits beside the one with a sorted list: equal results of equal calls.
+// The pool with rows of bits beside a plain one: equal results of equal calls.
 ghost use Rattle.std.specs.Prelude.{◌≤◌};
 
-use crate::held_chunks::{give_held, give_listed, hold, hold_listed};
+use crate::held_chunks::{give_held, hold};
+use crate::plain_pool::PlainPool;
 use crate::samples::{HANDED_OUT, chunk};
 use cm_pool::{Chunk, Geometry, Pool};
-use cm_pool_list::ListPool;
 use std::alloc::{AllocError, Global};
 use std::marker::Model;
 use std::test::Fail;
 
-// Both bodies, and what was taken from each.
+// Both bodies, and what was taken from the product's.
 #[derive(Drop)]
 struct Both {
     pool: Pool,
     held: Vec<Chunk>,
-    listed: ListPool,
-    held_listed: Vec<Chunk>,
+    plain: PlainPool,
 }
 
-// Seen as how many chunks each of them holds.
+// Seen as how many chunks are held.
 impl Model for Both {
     ghost use Rattle.std.specs.Prelude.{ℕ, vec_len};
     ghost use Rattle.cm_pool.specs.Held.{AreHeld};
 
-    ghost Value = { ℕ × ℕ };
+    ghost Value = { ℕ };
 
-    ghost view = { λ b. (vec_len b.held, vec_len b.held_listed) };
+    ghost view = { λ b. vec_len b.held };
 
-    ghost invariant = { λ b. AreHeld b.pool b.held.items × AreHeld b.listed b.held_listed.items };
+    ghost invariant = { λ b. AreHeld b.pool b.held.items };
 }
 
 // Adds this many roots to each pool.
-fn add_roots(pool: &mut Pool, listed: &mut ListPool, roots: u32) -> Result<(), Fail> {
+fn add_roots(pool: &mut Pool, plain: &mut PlainPool, roots: u32) -> Result<(), AllocError> {
     for _ in 0..roots {
-        if pool.add_root()? != listed.add_root()? {
-            return Err("roots".into());
-        }
+        pool.add_root()?;
+        plain.add_root()?;
     }
     Ok(())
 }
@@ -45,44 +43,27 @@ impl Both {
     fn whole(alloc: Global, top: u32, roots: u32) -> Result<Both, Fail> {
         let geometry = Geometry::new(top, roots, 256).ok_or("sizes")?;
         let mut pool = Pool::new(alloc, geometry)?;
-        let mut listed = ListPool::new(alloc, geometry)?;
-        add_roots(&mut pool, &mut listed, roots)?;
-        Ok(Both {
-            pool,
-            held: Vec::new(alloc),
-            listed,
-            held_listed: Vec::new(alloc),
-        })
+        let mut plain = PlainPool::new(alloc, top);
+        add_roots(&mut pool, &mut plain, roots)?;
+        let held = Vec::new(alloc);
+        Ok(Both { pool, held, plain })
     }
 
     // What each pool takes for the order.
     fn hold(&mut self, order: u32) -> Result<(Option<Chunk>, Option<Chunk>), AllocError> {
         let taken = hold(&mut self.pool, &mut self.held, order)?;
-        let listed = hold_listed(&mut self.listed, &mut self.held_listed, order)?;
-        Ok((taken, listed))
+        Ok((taken, self.plain.alloc(order)))
     }
 
-    // Gives the chunk at a place back to each pool, if both hold one there.
-    fn give(&mut self, at: usize) -> Option<(Chunk, Chunk)> {
-        if at >= self.held.len() || at >= self.held_listed.len() {
+    // Gives the chunk at a place back to both pools, if there is one.
+    fn give(&mut self, at: usize) -> Option<Chunk> {
+        if at >= self.held.len() {
             return None;
         }
         let given = give_held(&mut self.pool, &mut self.held, at);
-        let listed = give_listed(&mut self.listed, &mut self.held_listed, at);
-        Some((given, listed))
+        self.plain.give(given);
+        Some(given)
     }
-}
-
-// Gives back the first chunk that is held, this many times; returns how often both gave back the
-// same one.
-fn give_first(both: &mut Both, times: u32) -> u32 {
-    let mut equal = 0;
-    for _ in 0..times {
-        if let Some((given, listed)) = both.give(0) {
-            equal = u32::from(given == listed).saturating_add(equal);
-        }
-    }
-    equal
 }
 
 // Whether both hand out the expected chunks, give the three back alike, and then hand out the whole
@@ -93,7 +74,10 @@ fn hand_out(both: &mut Both) -> Result<bool, AllocError> {
         equal = both.hold(*order)? == (*first, *first) && equal;
     }
     let whole = Some(chunk((0, 3, 0)));
-    Ok(equal && give_first(both, 3) == 3 && both.hold(3)? == (whole, whole))
+    for _ in 0..3 {
+        equal = both.give(0).is_some() && equal;
+    }
+    Ok(equal && both.hold(3)? == (whole, whole))
 }
 
 #[test]
@@ -103,19 +87,18 @@ fn both_hand_out_the_first_chunk(rt: HostRuntime) -> Result<(), Fail> {
     Ok(())
 }
 
-// Allocates 2,000 times, and gives back every third chunk; returns for how many of these calls both
-// have the same result.
+// Allocates 2,000 times, and gives back a chunk after every third; returns for how many of these
+// calls both have the same result.
 fn compare_calls(both: &mut Both, top: u32) -> Result<u32, Fail>
     requires { top ≤ 12 }
 {
     let mut equal = 0;
     for call in 0..2000 {
-        let (taken, listed) = both.hold((call * 7 + call / 3) % (top + 1))?;
-        equal = u32::from(taken == listed).saturating_add(equal);
+        let (taken, plain) = both.hold((call * 7 + call / 3) % (top + 1))?;
+        equal = u32::from(taken == plain).saturating_add(equal);
         let count = both.held.len();
         if call % 3 == 2 && count > 0 {
-            let (given, listed) = both.give(call as usize * 5 % count).ok_or("held")?;
-            equal = u32::from(given == listed).saturating_add(equal);
+            both.give(call as usize * 5 % count).ok_or("held")?;
         }
     }
     Ok(equal)
@@ -131,8 +114,8 @@ fn equal_answers(alloc: Global, top: u32, roots: u32) -> Result<u32, Fail>
 // In the second region rows are longer than a word, and one of them than 64.
 #[test]
 fn both_answer_alike(rt: HostRuntime) -> Result<(), Fail> {
-    assert_eq!(rt; equal_answers(rt.alloc(), 4, 2)?, 2000 + 666);
-    assert_eq!(rt; equal_answers(rt.alloc(), 12, 2)?, 2000 + 666);
+    assert_eq!(rt; equal_answers(rt.alloc(), 4, 2)?, 2000);
+    assert_eq!(rt; equal_answers(rt.alloc(), 12, 2)?, 2000);
     Ok(())
 }
 
@@ -141,16 +124,16 @@ fn both_answer_alike(rt: HostRuntime) -> Result<(), Fail> {
 fn take_smallest(both: &mut Both, times: u32) -> Result<u32, AllocError> {
     let mut equal = 0;
     for _ in 0..times {
-        let (chunk, listed) = both.hold(0)?;
-        equal = u32::from(chunk.is_some() && chunk == listed).saturating_add(equal);
+        let (chunk, plain) = both.hold(0)?;
+        equal = u32::from(chunk.is_some() && chunk == plain).saturating_add(equal);
     }
     Ok(equal)
 }
 
 // The root of the chunk at a place, which both hand out again after it is given back.
 fn root_of_the_only_free(both: &mut Both, at: usize) -> Result<u32, Fail> {
-    let (given, listed) = both.give(at).ok_or("held")?;
-    if both.hold(0)? != (Some(given), Some(listed)) {
+    let given = both.give(at).ok_or("held")?;
+    if both.hold(0)? != (Some(given), Some(given)) {
         return Err("another chunk".into());
     }
     Ok(given.root)

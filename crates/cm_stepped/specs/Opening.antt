@@ -1,5 +1,7 @@
 -- What a stepped session is that was just opened.
-use Rattle.std.specs.Prelude.{◌≡◌, List, ℕ, false, None, Result, Ok, Err}
+use Rattle.std.specs.Prelude.{◌≡◌, List, ℕ, false, None, Result, Ok, Err, nat_lt}
+use Rattle.cm_layout.specs.Frames.{entry_version}
+use Rattle.cm_verdict.specs.Found.{Found, found_in}
 use Rattle.cm_pool.specs.Geometry.{Sizes}
 use Rattle.cm_disk.specs.Disk.{View, IsDurable}
 use Rattle.cm_state.specs.Stands.{Arenas, Stands}
@@ -22,6 +24,11 @@ pub record Opened {D : Type 0} (view : View D) (sizes : Sizes) (bytes : List ℕ
   pub sizes_are : s.session.committer.sizes ≡ sizes
   pub durable : IsDurable (view.contents s.session.committer.disk)
       (view.unsynced s.session.committer.disk)
+
+-- the rows of the contents are not of version 1
+abbrev pub IsUpToDate : List ℕ → Type 0
+IsUpToDate contents =
+    (f : Found) → found_in contents ≡ Ok f → nat_lt f.head.version entry_version ≡ false
 
 -- The contents stand for a cache, and the session matches the machine that begins with it.
 pub record Begins {D : Type 0} (bytes : List ℕ) (s : SteppedSession D) : Type 0 where

@@ -19,7 +19,7 @@ abbrev pub IsBehind : Machine → Option Progress → Machine → Type 0
 IsBehind k None ahead = ahead ≡ k
 IsBehind k (Some progress) ahead = Advancing k (Ok progress) ahead
 
--- The machine is the caller's: what the caller was told to be stored is acknowledged in it.
+-- The machine is the caller's: what was reported to the caller as stored is acknowledged in it.
 pub record SteppedMatches {D : Type 0} (k : Machine) (s : SteppedSession D) : Type 0 where
   pub ahead : ReachesMachine (IsBehind k s.asked) (λ next. SessionMatches next s.session)
   pub stored : k.acknowledged ≡ s.stored

@@ -1,9 +1,10 @@
 //! Calls that make a file, or bring it up to date, for a caller that makes them.
 
 ghost use Rattle.std.specs.Prelude.{◌≡◌, ◌+◌, IfOk, IsErr, IsSome, IsNone, true, false, Ok, Err};
-ghost use Rattle.std.specs.Prelude.{option_map};
+ghost use Rattle.std.specs.Prelude.{[], option_map};
 ghost use Rattle.cm_device_disk.specs.DeviceDisk.{disk_contents};
 ghost use Rattle.cm_deferred_disk.specs.Calls.{call_of};
+ghost use Rattle.cm_deferred_disk.specs.Listed.{all_applied, listed};
 ghost use Rattle.cm_recover.specs.NewFile.{new_bytes};
 ghost use Rattle.cm_stepped.specs.CallList.{next_call, IsUnbegun};
 
@@ -41,9 +42,14 @@ impl CallList {
     pub fn format(alloc: Global, geometry: Geometry) -> Result<CallList, FormatFault>
         ensures unbegun { IfOk result IsUnbegun }
         ensures bytes { IfOk result (λ l. disk_contents l.disk ≡ new_bytes geometry) }
+        ensures calls { IfOk result
+            (λ l. all_applied (listed l.disk.device) [] ≡ new_bytes geometry) }
     {
         let mut disk = DeviceDisk::of_empty(alloc, ListedCalls::new(alloc));
         format(alloc, &mut disk, geometry)?;
+        if disk.cause().is_some() {
+            return Err(FormatFault::Device); // a call that can't be listed fails
+        }
         Ok(CallList {
             disk,
             made: 0,

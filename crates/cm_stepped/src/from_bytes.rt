@@ -1,12 +1,13 @@
 //! Opens the bytes of a file, for a caller that makes the device calls.
 
-ghost use Rattle.std.specs.Prelude.{◌≡◌, ◌≤◌, ◌^◌, length, IfOk};
+ghost use Rattle.std.specs.Prelude.{◌≡◌, ◌≤◌, ◌^◌, List, ℕ, length, IfOk, OnOk};
 ghost use Rattle.cm_device_disk.specs.DeviceDisk.{disk_contents};
+ghost use Rattle.cm_stepped.specs.Opening.{Begins, IsUpToDate};
 
 use crate::opening::open;
 use crate::stepped::SteppedSession;
 use cm_deferred_disk::{DeferredDisk, LastCall, ListedCalls, ListedDisk, SliceDevice};
-use cm_device_disk::{DeviceDisk, OpenedDevice, ReadError};
+use cm_device_disk::{DeviceDisk, HeldDisk, OpenedDevice, ReadError};
 use cm_disk::DeviceFault;
 use cm_region_disk::{disk_of, most_bytes_a_write};
 use cm_verdict::{OpenFault, is_older};
@@ -60,20 +61,34 @@ fn read_bytes(alloc: Global, bytes: &[u8]) -> Result<ReadBytes<'_>, OpenFault>
     }
 }
 
+// A file of version 1 may only be opened once it was upgraded, so no fault is passed over.
+fn refuse_older(
+    alloc: Global,
+    disk: &DeviceDisk<SliceDevice<'_>, DeviceFault>,
+) -> Result<(), BytesFault>
+    ensures { OnOk result (IsUpToDate (disk_contents disk.now)) }
+{
+    match is_older(alloc, &mut HeldDisk::of(disk)) {
+        Ok(true) => Err(BytesFault::Older),
+        Ok(false) => Ok(()),
+        Err(fault) => Err(BytesFault::Fault(fault)),
+    }
+}
+
 /// Opens the cache of these bytes, as [`open`] does. They are read in this call alone.
 ///
 /// # Errors
 /// [`BytesFault::Older`] if the half that counts is of version 1. Otherwise exactly the verdict on
 /// the bytes; `NoMemory` if an allocation failed.
-pub fn open_bytes(alloc: Global, bytes: &[u8]) -> Result<SteppedSession<DeferredDisk>, BytesFault> {
-    let ReadBytes { mut disk, room } = match read_bytes(alloc, bytes) {
+pub fn open_bytes(alloc: Global, bytes: &[u8]) -> Result<SteppedSession<DeferredDisk>, BytesFault>
+    ensures { IfOk result (λ s. (contents : List ℕ) × (length contents ≡ length bytes.now)
+        × IsUpToDate contents × Begins contents s) }
+{
+    let ReadBytes { disk, room } = match read_bytes(alloc, bytes) {
         Ok(read) => read,
         Err(fault) => return Err(BytesFault::Fault(fault)),
     };
-    // Any fault here is found again when the cache is opened.
-    if matches!(is_older(alloc, &mut disk), Ok(true)) {
-        return Err(BytesFault::Older);
-    }
+    refuse_older(alloc, &disk)?;
     let Ok(note) = LastCall::new(alloc, room) else {
         return Err(BytesFault::Fault(OpenFault::NoMemory));
     };

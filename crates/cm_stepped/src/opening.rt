@@ -19,7 +19,7 @@ use std::alloc::Global;
 /// by then: a sync, and those that upgrade a file of version 1. All of them are to be made before
 /// the first step.
 ///
-/// No call is asked for yet, and all commands that the file stands for are told to be stored.
+/// No call is asked for yet, and all commands that the file stands for are reported as stored.
 pub fn open<D: Disk>(alloc: Global, disk: D) -> Result<SteppedSession<D>, NotOpened<D>>
     ensures opened { (sizes : Sizes) (k : Machine) → StandsForSome sizes k (D.view.contents disk)
         → IfOk result (Opened D.view sizes (D.view.contents disk) k) }

@@ -4,6 +4,7 @@ ghost use Rattle.std.specs.Prelude.{◌≡◌, ◌⊎◌, true, false, None, Err
 ghost use Rattle.std.specs.Prelude.{IfSome};
 ghost use Rattle.std.specs.Option.{option_map};
 ghost use Rattle.std.specs.Arc.{arc_value};
+ghost use Rattle.cm_front.specs.Accepting.{FrontAnswers};
 ghost use Rattle.cm_guards.specs.Guards.{EachImage};
 ghost use Rattle.cm_commands.specs.Commands.{change_asked};
 ghost use Rattle.cm_commands.specs.Machine.{Machine};
@@ -27,11 +28,11 @@ use std::sync::Arc;
 /// A session over a disk that notes its calls, which the caller makes: one is asked for in a step,
 /// and the next step is told whether it was made. The session is one call ahead of what was told.
 ///
-/// A number is told to be stored only by a step that is told that the last call of its group was
+/// A number is reported as stored only by a step that is told that the last call of its group was
 /// made. So the calls that were made are at each moment a beginning of those that the session's own
 /// disk made, and a crash leaves what a crash of that disk leaves.
 ///
-/// Contracts speak of the machine as the caller knows it: what it was told to be stored is
+/// Contracts speak of the machine as the caller knows it: what was reported to it as stored is
 /// acknowledged there.
 pub struct SteppedSession<D: Disk> {
     pub(crate) session: Session<D>,
@@ -89,6 +90,8 @@ impl<D: Disk> SteppedSession<D> {
         ensures machine { (k : Machine) → SteppedMatches k self.old → self.old.is_broken ≡ false
             → Accepting self.old.session.committer.sizes k (change_asked command.entry) result
             (λ next. SteppedMatches next self.new) }
+        ensures as_front { self.old.is_broken ≡ false → FrontAnswers self.old.session.front
+            (change_asked command.entry) result self.new.session.front }
         ensures broken { self.old.is_broken ≡ true
             → (result ≡ Err refusal.Broken) × (self.new ≡ self.old) }
         ensures disk { self.new.session.committer ≡ self.old.session.committer }
@@ -189,7 +192,7 @@ impl<D: Disk> SteppedSession<D> {
     /// none was asked for.
     ///
     /// After [`Step::Call`] the disk has noted one more call, and while that is made a crash leaves
-    /// all that the caller was told to be stored, and nothing that wasn't accepted.
+    /// all that was reported to the caller as stored, and nothing that wasn't accepted.
     ///
     /// # Errors
     /// [`Broken`] if that call wasn't made, if the disk refuses to note the next one, or if either
@@ -218,7 +221,7 @@ impl<D: Disk> SteppedSession<D> {
     }
 
     /// Does nothing: its clause says what a crash leaves while no call is asked for. That is all
-    /// commands that the caller was told to be stored, and none that wasn't accepted.
+    /// commands that were reported to the caller as stored, and none that wasn't accepted.
     pub fn images(&self)
         ensures { (k : Machine) → SteppedMatches k self.now → self.now.asked ≡ None
             → EachImage (D.view.contents self.now.session.committer.disk)

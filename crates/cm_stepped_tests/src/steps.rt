@@ -45,7 +45,7 @@ fn make_noted(session: &SteppedSession<DeferredDisk>, file: &mut Vec<u8>) -> Res
     }
 }
 
-/// Makes this many calls, and gives the last number that was told to be stored.
+/// Makes this many calls, and gives the last number that was reported as stored.
 fn run(
     session: &mut SteppedSession<DeferredDisk>,
     file: &mut Vec<u8>,

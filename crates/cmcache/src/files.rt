@@ -7,8 +7,8 @@ use cm_maintenance::Status;
 use cm_pool::Geometry;
 use cm_recover::{FormatFault, format};
 use cm_verdict::OpenFault;
+use std::fmt::Display;
 use std::fs::{self, File, Files};
-use std::io;
 use std::thread::Threads;
 
 /// Makes an empty cache in a new file, and returns the status.
@@ -20,8 +20,8 @@ pub fn format_file(
     let mut disk = match cm_file_disk::create(rt, rt.alloc(), path) {
         Ok(disk) => disk,
         Err(CreateError::Exists) => return say_not_made(rt, FormatFault::NotEmpty),
-        Err(CreateError::Device(cause)) => {
-            tell_cause(rt, path, cause);
+        Err(error) => {
+            tell_cause(rt, path, error);
             return say_not_made(rt, FormatFault::Device);
         }
     };
@@ -70,7 +70,7 @@ pub fn say_not_opened(rt: &(impl Print + Eprint), path: &str, error: OpenError) 
     if let OpenError::NoMemory = error {
         return say(rt, OpenFault::NoMemory, Status::Failed);
     }
-    let _ = eprintln!(rt; "cmcache: {path}: {error}");
+    tell_cause(rt, path, error);
     say(rt, OpenFault::Device, Status::Failed)
 }
 
@@ -81,6 +81,6 @@ pub fn tell_failure(rt: &impl Eprint, path: &str, disk: &FileDisk) {
     }
 }
 
-fn tell_cause(rt: &impl Eprint, path: &str, cause: io::Error) {
+fn tell_cause(rt: &impl Eprint, path: &str, cause: impl Display + Drop) {
     let _ = eprintln!(rt; "cmcache: {path}: {cause}");
 }

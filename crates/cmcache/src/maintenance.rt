@@ -22,15 +22,35 @@ pub fn check_file(
     }
 }
 
-/// The disk of a file that is listed. No permission to write to it is needed, unless it is of
-/// version 1: then opening its cache upgrades it.
+/// The disk of a file that is listed. If there is no permission to write to it, it is only read.
 fn disk_to_list(
     rt: &(impl Files<File = File> + AllocGlobal),
     path: &str,
 ) -> Result<FileDisk, OpenError> {
+    match cm_region_file::open(rt, path) {
+        Err(OpenError::Device(cause)) if is_write_denied(cause) => disk_to_read(rt, path, cause),
+        opened => opened,
+    }
+}
+
+/// Whether a file wasn't opened because it may not be written to.
+fn is_write_denied(cause: io::Error) -> bool {
+    matches!(
+        cause.kind(),
+        io::ErrorKind::PermissionDenied | io::ErrorKind::ReadOnlyFilesystem
+    )
+}
+
+/// The disk of a file that may only be read. One of version 1 would have to be upgraded, so it
+/// isn't opened, for the same cause.
+fn disk_to_read(
+    rt: &(impl Files<File = File> + AllocGlobal),
+    path: &str,
+    cause: io::Error,
+) -> Result<FileDisk, OpenError> {
     let mut disk = cm_region_file::open_read_only(rt, path)?;
     match is_older(rt.alloc(), &mut disk) {
-        Ok(true) => cm_region_file::open(rt, path),
+        Ok(true) => Err(OpenError::Device(cause)),
         _ => Ok(disk),
     }
 }

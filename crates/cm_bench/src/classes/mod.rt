@@ -11,7 +11,7 @@ mod step;
 use crate::classes::lookups::{Lookup, subjects};
 use crate::classes::methods::print_methods;
 use crate::classes::pools::Crowd;
-use crate::classes::report::{report, report_lookup, report_pools};
+use crate::classes::report::{report, report_lookup, report_pool};
 use crate::classes::samples::Samples;
 use crate::classes::step::Step;
 use anyhow::Result;
@@ -61,7 +61,7 @@ fn bench_lookups(
 /// here, and the pools are large.
 fn bench_pools(rt: &(impl Clock + Print + AllocGlobal), passes: Option<u32>) -> Result<()> {
     for crowd in Crowd::ALL {
-        report_pools(rt, crowd, passes)?;
+        report_pool(rt, crowd, passes)?;
     }
     Ok(())
 }

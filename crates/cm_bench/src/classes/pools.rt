@@ -1,30 +1,9 @@
-//! The cost of taking a block of a crowded pool and giving it back, with rows of bits and with a
-//! sorted list.
+//! The cost of taking a block of a crowded pool and giving it back.
 ghost use Rattle.std.specs.Prelude.{◌≡◌};
 
 use crate::classes::lookups::Tally;
 use cm_pool::{Chunk, Geometry, Pool};
-use cm_pool_list::ListPool;
 use std::alloc::{AllocError, Global};
-
-/// How a pool keeps its free words.
-#[derive(Clone, Copy)]
-pub enum Body {
-    Bits,
-    List,
-}
-
-impl Body {
-    pub const ALL: [Body; 2] = [Body::Bits, Body::List];
-
-    /// Its name in the output.
-    pub fn name(self) -> &'static str {
-        match self {
-            Body::Bits => "by bits",
-            Body::List => "by a list",
-        }
-    }
-}
 
 /// The state of a pool of 256 roots of order 12, and which block is taken.
 #[derive(Clone, Copy)]
@@ -97,11 +76,10 @@ fn single_blocks(alloc: Global) -> Result<Vec<Chunk>, AllocError> {
 /// How often a block is taken and given back.
 const CALLS: u32 = 1_000;
 
-/// The largest pool, in both bodies.
+/// The largest pool, crowded, and the order of the block that is taken.
 #[derive(Drop)]
-pub struct Pools {
-    bits: Pool,
-    list: ListPool,
+pub struct CrowdedPool {
+    pool: Pool,
     order: u32,
 }
 
@@ -119,49 +97,28 @@ fn take_and_give(pool: &mut Pool, order: u32) -> bool
     true
 }
 
-/// The same, with a sorted list.
-fn take_and_give_listed(pool: &mut ListPool, order: u32) -> bool
-    ensures { pool.new ≡ pool.old }
-{
-    if order > pool.geometry().top() {
-        return false;
-    }
-    let Some(chunk) = pool.alloc(order) else {
-        return false;
-    };
-    pool.give(chunk);
-    true
-}
-
-impl Pools {
-    /// Both bodies, equally crowded. `None` if these sizes were no geometry.
-    pub fn new(alloc: Global, crowd: Crowd) -> Result<Option<Pools>, AllocError> {
+impl CrowdedPool {
+    /// `None` if these sizes were no geometry.
+    pub fn new(alloc: Global, crowd: Crowd) -> Result<Option<CrowdedPool>, AllocError> {
         let Some(geometry) = Geometry::new(12, 256, 256) else {
             return Ok(None);
         };
-        let mut bits = Pool::new(alloc, geometry)?;
-        let mut list = ListPool::new(alloc, geometry)?;
+        let mut pool = Pool::new(alloc, geometry)?;
         for _ in 0..256 {
-            let _both = (bits.add_root()?, list.add_root()?); // there is room
+            let _added = pool.add_root()?; // there is room
         }
         for chunk in &crowd.used_chunks(alloc)? {
-            let _both = (bits.take(chunk), list.take(chunk)); // it is free
+            let _taken = pool.take(chunk); // it is free
         }
-        Ok(Some(Pools {
-            bits,
-            list,
-            order: crowd.order(),
-        }))
+        let order = crowd.order();
+        Ok(Some(CrowdedPool { pool, order }))
     }
 
     /// Takes a block and gives it back, again and again.
-    pub fn run(&mut self, body: Body) -> Tally {
+    pub fn run(&mut self) -> Tally {
         let mut tally = Tally { calls: 0, found: 0 };
         for _ in 0..CALLS {
-            tally.add(match body {
-                Body::Bits => take_and_give(&mut self.bits, self.order),
-                Body::List => take_and_give_listed(&mut self.list, self.order),
-            });
+            tally.add(take_and_give(&mut self.pool, self.order));
         }
         tally
     }

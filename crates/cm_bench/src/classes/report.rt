@@ -1,7 +1,7 @@
 //! What is printed about a step.
 
 use crate::classes::lookups::{Lookup, Subject};
-use crate::classes::pools::{Body, Crowd, Pools};
+use crate::classes::pools::{Crowd, CrowdedPool};
 use crate::classes::samples::Samples;
 use crate::classes::step::Step;
 use anyhow::Result;
@@ -98,49 +98,35 @@ pub fn report_lookup(
     Ok(())
 }
 
-/// The least time that a body of a pool takes, in `passes` passes.
-fn best_of_pools(rt: &impl Clock, pools: &mut Pools, body: Body, passes: u32) -> Result<Duration> {
+/// The least time that a crowded pool takes, in `passes` passes.
+fn best_of_pool(rt: &impl Clock, pool: &mut CrowdedPool, passes: u32) -> Result<Duration> {
     let mut best = Duration::MAX;
     for _ in 0..passes {
         let start = Instant::now(rt)?;
-        let _tally = pools.run(body); // reported once, by another run
+        let _tally = pool.run(); // reported once, by another run
         best = best.min(start.elapsed(rt)?);
     }
     Ok(best)
 }
 
 /// Takes a block of a crowded pool and gives it back, many times in each pass, and prints a line.
-fn report_body(
-    rt: &(impl Clock + Print),
-    pools: &mut Pools,
-    crowd: Crowd,
-    body: Body,
-    passes: Option<u32>,
-) -> Result<()> {
-    let (crowd_name, body_name) = (crowd.name(), body.name());
-    let tally = pools.run(body);
-    let (calls, found) = (tally.calls, tally.found);
-    print!(rt; "{crowd_name}, {body_name} calls {calls} found {found}")?;
-    if let Some(passes) = passes {
-        let nanos = best_of_pools(rt, pools, body, passes)?.as_nanos();
-        let each = nanos / (calls as u128).max(1);
-        print!(rt; " best {nanos} ns {each} ns to take and give back")?;
-    }
-    println!(rt;)?;
-    Ok(())
-}
-
-/// Takes blocks of a crowded pool and gives them back, and prints a line for each body.
-pub fn report_pools(
+pub fn report_pool(
     rt: &(impl Clock + Print + AllocGlobal),
     crowd: Crowd,
     passes: Option<u32>,
 ) -> Result<()> {
-    let Some(mut pools) = Pools::new(rt.alloc(), crowd)? else {
+    let Some(mut pool) = CrowdedPool::new(rt.alloc(), crowd)? else {
         return Ok(());
     };
-    for body in Body::ALL {
-        report_body(rt, &mut pools, crowd, body, passes)?;
+    let name = crowd.name();
+    let tally = pool.run();
+    let (calls, found) = (tally.calls, tally.found);
+    print!(rt; "{name} calls {calls} found {found}")?;
+    if let Some(passes) = passes {
+        let nanos = best_of_pool(rt, &mut pool, passes)?.as_nanos();
+        let each = nanos / (calls as u128).max(1);
+        print!(rt; " best {nanos} ns {each} ns to take and give back")?;
     }
+    println!(rt;)?;
     Ok(())
 }

@@ -62,7 +62,7 @@ impl<R: Clock + Print + Wait> Work<R> for Worker<'_> {
 
     ghost may_run = { λ _. Unit {0} };
 
-    ghost keeps = { λ _ _. Unit {0} };
+    ghost keeps = { λ _ _ _. Unit {0} };
 
     fn run<K: Naming>(
         self,

@@ -25,7 +25,7 @@ returns-clause-machine g c =
     let fn = c.args.session.now.committer in
     let new = c.commit.new.self.committer in
     let asked = defines c.args.loader.now c.args.classes.items in
-    let answers = c.in-Ok.answers.items in
+    let answers = c.in-Ok.outcomes.items in
     λ k i ready.
     let t = c.in-Ok.ensures.machine k i in
     let caught = taken_is_caught fn.sizes k asked answers t.next t.does ready in
@@ -42,7 +42,7 @@ returns-then-is_err-clause-machine g c =
     let fn = c.args.session.now.committer in
     let new = c.commit.new.self.committer in
     let asked = defines c.args.loader.now c.args.classes.items in
-    let answers = c.in-Ok.answers.items in
+    let answers = c.in-Ok.outcomes.items in
     λ k i ready.
     let t = c.in-Ok.ensures.machine k i in
     let caught = taken_is_caught fn.sizes k asked answers t.next t.does ready in

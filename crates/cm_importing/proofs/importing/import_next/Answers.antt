@@ -34,7 +34,7 @@ returns-in-Ok-clause-machine g c =
     let b = g.F.Feed.log c.next.new.self in
     let d = g.F.Feed.log c.tell.new.self in
     let classes = c.in-Ok-Some.classes in
-    let answers = c.in-Ok.answers.items in
+    let answers = c.in-Ok.outcomes.items in
     let field = c.in-Ok-Some.field-0-is in
     let same = c.in-Ok-Some.classes-is in
     let some : c.in-Ok-Some.field-0 ≡ Some classes = cc in
@@ -47,7 +47,7 @@ returns-in-Ok-clause-machine g c =
     record {
       next = r.next;
       does = (
-        record { classes = classes.items; answers = answers },
+        record { classes = classes.items; outcomes = answers },
         r.does.0,
         logs_on a b d (Given classes.items ∷ []) (Told answers ∷ []) given told,
         r.does.1,

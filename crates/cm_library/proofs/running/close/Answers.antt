@@ -6,10 +6,11 @@ returns g c =
     record {
       shares = closing.shares;
       counted = closing.counted;
+      missing = closing.missing;
       all_back = closing.passes;
       receipts = closing.receipts;
       images = closing.images;
-      lasts = closing.lasts;
+      changes = closing.changes;
       whole = λ same. (closing.whole same).0;
       sure = λ same. (closing.whole same).1;
     }

@@ -1,5 +1,5 @@
 use Rattle.cm_attributes.specs.Contents.{past_counted, past_handler}
-use Rattle.cm_record_rules.proofs.Counted.{rows_goes_on, rows_refuse, rows_end}
+use Rattle.cm_attributes.proofs.{rows_goes_on, rows_refuse, rows_end}
 use Rattle.cm_record_rules.proofs.code.skip_handlers.Goals as goal
 
 pub returns-in_err-rest : goal.returns-in_err-rest

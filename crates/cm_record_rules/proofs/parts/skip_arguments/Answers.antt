@@ -3,7 +3,7 @@ use Rattle.cm_class.specs.Names.{names_such}
 use Rattle.cm_attributes.specs.Contents.{is_loadable}
 use Rattle.cm_record_rules.specs.Parts.{past_tests}
 use Rattle.cm_attributes.specs.Contents.{past_counted}
-use Rattle.cm_record_rules.proofs.Counted.{rows_goes_on, rows_refuse, rows_end}
+use Rattle.cm_attributes.proofs.{rows_goes_on, rows_refuse, rows_end}
 use Rattle.cm_record_rules.proofs.parts.skip_arguments.Goals as goal
 
 pub returns-in_err-rest : goal.returns-in_err-rest

@@ -3,7 +3,7 @@ use Rattle.cm_class.specs.declared.kind.Kind.TheVariants as kinds
 use Rattle.cm_class.specs.Names.{names}
 use Rattle.cm_record_rules.specs.Parts.{past_tests}
 use Rattle.cm_attributes.specs.Contents.{past_counted}
-use Rattle.cm_record_rules.proofs.Counted.{rows_goes_on, rows_refuse, rows_end}
+use Rattle.cm_attributes.proofs.{rows_goes_on, rows_refuse, rows_end}
 use Rattle.cm_record_rules.proofs.parts.skip_exceptions.Goals as goal
 
 pub returns-in_err-rest : goal.returns-in_err-rest

@@ -1,5 +1,5 @@
 use Rattle.cm_attributes.specs.Contents.{past_counted, past_parts, inner_class}
-use Rattle.cm_record_rules.proofs.Counted.{rows_goes_on, rows_refuse, rows_end}
+use Rattle.cm_attributes.proofs.{rows_goes_on, rows_refuse, rows_end}
 use Rattle.cm_record_rules.proofs.parts.skip_inner_classes.Goals as goal
 
 pub returns-in_err-rest : goal.returns-in_err-rest

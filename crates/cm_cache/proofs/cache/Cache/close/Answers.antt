@@ -2,7 +2,7 @@ use Rattle.std.proofs.Common.{◌-◌, sym, subst, arith}
 use Rattle.cm_guards.specs.Guards.{EachImage}
 use Rattle.std.specs.List.{All}
 use Rattle.cm_cache.specs.Channel.{entries_of}
-use Rattle.cm_cache.specs.Handing.{IsLastHanded}
+use Rattle.cm_cache.specs.Handing.{AreHanded}
 use Rattle.cm_cache.specs.Shared.{PassState}
 use Rattle.cm_cache.specs.Closing.{ShowsBeginning}
 use Rattle.cm_cache.proofs.Counted.{within, none_marked}
@@ -27,8 +27,8 @@ returns-clause-whole g c = λ same.
       none_marked _ _ c.take_all.ensures.marked all.1,
     )
 
-pub returns-clause-lasts : goal.returns-clause-lasts
-returns-clause-lasts g c =
+pub returns-clause-changes : goal.returns-clause-changes
+returns-clause-changes g c =
     let view = g.D.Disk.view in
     let left = c.leave-number in
     record {
@@ -46,10 +46,11 @@ returns-clause-lasts g c =
             (left.result.0 - n)))
             (sym c.args.self.opened_is) left.ensures.images;
       };
-      lasts = subst
-          (λ l. All (λ (p : PassState). IsLastHanded g.K.Naming.base (entries_of l) p.last)
+      counted = c.take_all.ensures.counted;
+      changes = subst
+          (λ l. All (λ (p : PassState). AreHanded g.K.Naming.base (entries_of l) p.changes)
           c.args.passes.items)
-          left.ensures.sent c.take_all.ensures.lasts;
+          left.ensures.sent c.take_all.ensures.changes;
     }
 
 pub returns-clause-images : goal.returns-clause-images

@@ -8,10 +8,10 @@ use Rattle.cm_cache.proofs.ends.Outgoing.ordered.Goals as goal
 
 pub learn_as-requires-clause-rule : goal.learn_as-requires-clause-rule
 learn_as-requires-clause-rule g c =
-    orders _ _ (ap (λ (v : ChannelView). v.sends) c.self.invariant.2)
+    orders _ _ c.self.invariant.2
 
 pub returns-clause-ordered : goal.returns-clause-ordered
 returns-clause-ordered g c =
     subst (λ (t : Base × List Message). InOrder t.0 [] t.1)
-    (λ i. (ap (λ (v : ChannelView). v.base) c.self.invariant.2 i, c.self.view_is i))
+    (λ i. (c.self.invariant.3 i, c.self.view_is i))
     c.learn_as.ensures.rule.1

@@ -8,10 +8,9 @@ use Rattle.cm_cache.proofs.ends.Outgoing.send_once.Goals as goal
 
 pub send_as-requires-clause-rule : goal.send_as-requires-clause-rule
 send_as-requires-clause-rule g c =
-    let knows = c.self.invariant.2 in
     let sent = c.self.view_is in
-    let base = ap (λ (v : ChannelView). v.base) knows in (
-      sends _ _ _ _ (ap (λ (v : ChannelView). v.sends) knows)
+    let base = c.self.invariant.3 in (
+      sends _ _ _ _ c.self.invariant.2
           (ap is_open sent ∙ c.requires.still_open)
           (subst (λ (t : Base × List Message). MayBeSent t.0 (entries_of t.1) c.args.message)
           (λ i. (sym base i, sym sent i)) c.requires.may),

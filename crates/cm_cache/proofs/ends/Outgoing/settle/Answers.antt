@@ -6,7 +6,7 @@ use Rattle.cm_cache.proofs.ends.Outgoing.settle.Goals as goal
 
 pub absorb-requires-clause-rule : goal.absorb-requires-clause-rule
 absorb-requires-clause-rule g c =
-    joins _ _ _ _ (ap (λ (v : ChannelView). v.sends) c.self.invariant.2)
+    joins _ _ _ _ c.self.invariant.2
     (ap (λ (v : ChannelView). v.receives) c.other.invariant.2)
 
 pub learn_as-requires-clause-rule : goal.learn_as-requires-clause-rule
@@ -22,11 +22,13 @@ returns-clause-whole g c =
     c.learn_as.ensures.rule.1
 
 pub invariant_of-result : goal.invariant_of-result
-invariant_of-result g c = (
-  c.learn_as.ensures.channel.0,
-  c.self.invariant.1,
-  ap (λ (v : ChannelView). v.sends) (c.learn_as.ensures.channel.2 ∙ c.absorb.ensures.rule),
-)
+invariant_of-result g c =
+    let is = c.learn_as.ensures.channel.2 ∙ c.absorb.ensures.rule in (
+      c.learn_as.ensures.channel.0,
+      c.self.invariant.1,
+      ap (λ (v : ChannelView). v.sends) is,
+      ap (λ (v : ChannelView). v.base) is ∙ c.self.invariant.3,
+    )
 
 pub returns-clause-same : goal.returns-clause-same
 returns-clause-same g c =

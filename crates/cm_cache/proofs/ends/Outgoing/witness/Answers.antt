@@ -7,7 +7,7 @@ use Rattle.cm_cache.proofs.ends.Outgoing.witness.Goals as goal
 
 pub another-pass-requires-clause-rule : goal.another-pass-requires-clause-rule
 another-pass-requires-clause-rule g c =
-    witnesses _ _ (ap (λ (v : ChannelView). v.sends) c.self.invariant.2)
+    witnesses _ _ c.self.invariant.2
 
 pub invariant_of-result : goal.invariant_of-result
 invariant_of-result g c =

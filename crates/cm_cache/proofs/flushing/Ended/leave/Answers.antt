@@ -1,5 +1,6 @@
 use Rattle.std.proofs.Common.{◌≡◌, ℕ, ◌-◌, sym, ap, subst, ◌∙◌}
 use Rattle.cm_guards.specs.Guards.{EachImage}
+use Rattle.cm_commit.specs.States.{CommitterState, MayLeave}
 use Rattle.cm_cache.specs.Channel.{entries_of}
 use Rattle.cm_cache.specs.Flushing.{EndedState}
 use Rattle.cm_cache.specs.Closing.{ShowsBeginning}
@@ -17,10 +18,16 @@ returns-clause-images g c =
     let i = c.self.invariant in
     let all = c.settle-settled.ensures.whole
     (i.ended (ap (λ (e : EndedState _). e.over) c.self.view_is ∙ c.requires.over)) in
+    let images = subst
+    (λ (s : CommitterState g.row.D.Denot). EachImage (view.contents s.disk) (view.unsynced s.disk)
+    (MayLeave s))
+    c.committer-committer.ensures c.images.ensures in
+    let number = c.number-number.ensures
+    ∙ ap (λ (s : CommitterState g.row.D.Denot). s.number) c.committer-committer.ensures in
     subst
-    (λ n. EachImage (view.contents c.into_disk.result) (view.unsynced c.into_disk.result)
-    (ShowsBeginning base sent (n - base.number))) (sym c.number-number.ensures)
+    (λ n. EachImage (view.contents c.into_disk-disk.result) (view.unsynced c.into_disk-disk.result)
+    (ShowsBeginning base sent (n - base.number))) (sym number)
     (subst
     (λ d. EachImage (view.contents d) (view.unsynced d)
-    (ShowsBeginning base sent (c.self.inside.committer.number - base.number)))
-    (sym c.into_disk.ensures) (shows_sent _ _ _ _ i _ all _ _ c.images.ensures))
+    (ShowsBeginning base sent (c.self.inside.storage.number - base.number)))
+    (sym c.into_disk-disk.ensures) (shows_sent _ _ _ _ i _ all _ _ images))

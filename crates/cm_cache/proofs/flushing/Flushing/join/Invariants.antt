@@ -1,5 +1,5 @@
-use Rattle.std.proofs.Common.{◌≡◌}
+use Rattle.cm_cache.specs.Flushing.{OnlyReceives}
 use Rattle.cm_cache.proofs.flushing.Flushing.join.Given as goal
 
 abbrev pub invariant-loop : goal.invariant-loop
-invariant-loop g l = l.self.committer ≡ l.initial.self.committer
+invariant-loop g l = OnlyReceives l.initial.self l.self

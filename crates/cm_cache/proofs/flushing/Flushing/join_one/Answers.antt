@@ -2,7 +2,7 @@ use Rattle.std.proofs.Common.{List, [], ◌∷◌, ◌++◌, Some, refl, sym, ap
 use Rattle.cm_group.specs.Groups.{Handed}
 use Rattle.cm_cache.specs.Channel.{entries_of, MayBeSent}
 use Rattle.cm_cache.specs.Flushing.{IsFlushing}
-use Rattle.cm_cache.proofs.Flushed.{end_came_with, joined_on, kept_behind}
+use Rattle.cm_cache.proofs.Flushed.{end_came_with, joined_on, kept_behind, receives_one}
 use Rattle.cm_cache.proofs.flushing.Flushing.join_one.Goals as goal
 
 pub invariant_of-self-in-Some-End : goal.invariant_of-self-in-Some-End
@@ -27,7 +27,7 @@ invariant_of-self-in-Err g c =
     subst
     (λ (x : Handed × Handed). IsFlushing g.K.Naming.base g.K.Naming.failed g.D.Disk.view.failures
     (record {
-      committer = c.self.inside.committer;
+      committer = c.self.inside.storage;
       received = c.receive_now.new.self;
       posted = c.self.inside.poster;
       next = Some x.0;
@@ -41,3 +41,15 @@ invariant_of-self-in-Err g c =
     ∙ ap (λ m. c.self.inside.incoming ++ m ∷ []) c.in-Some-Group.field-0-is)
     (subst (MayBeSent g.K.Naming.base (entries_of c.self.inside.incoming))
     c.in-Some-Group.field-0-is c.in-Some-Group.ensures.may))
+
+pub returns-in-Some-End : goal.returns-in-Some-End
+returns-in-Some-End g c =
+    receives_one _ _ _ _ c.self.view_is refl refl c.in-Some-End.ensures.received
+
+pub returns-in-Ok : goal.returns-in-Ok
+returns-in-Ok g c =
+    receives_one _ _ _ _ c.self.view_is refl refl c.in-Some-Group.ensures.received
+
+pub returns-in-Err : goal.returns-in-Err
+returns-in-Err g c =
+    receives_one _ _ _ _ c.self.view_is refl refl c.in-Some-Group.ensures.received

@@ -1,8 +1,9 @@
-use Rattle.std.proofs.Common.{List, sym, subst}
+use Rattle.std.proofs.Common.{List, ap, sym, subst}
 use Rattle.cm_commands.specs.Commands.{change_asked}
 use Rattle.cm_cache.specs.declared.channel.Message.{Message}
-use Rattle.cm_cache.specs.Handing.{IsTied, HandsOver}
-use Rattle.cm_cache.proofs.Tied.{carries_on, still_tied, hands_over}
+use Rattle.cm_front.specs.Front.{FrontState}
+use Rattle.cm_cache.specs.Handing.{HandingState, IsTied, MayAccept, HandsOver}
+use Rattle.cm_cache.proofs.Tied.{carries_on, still_tied, may_accept, hands_over}
 use Rattle.cm_cache.proofs.handing.Handing.hand_over.Goals as goal
 
 pub send-requires-clause-may : goal.send-requires-clause-may
@@ -25,3 +26,9 @@ returns-clause-ok g c =
     HandsOver g.K.Naming.base x.0 (change_asked c.args.command) c.in-Ok.taken.0 x.1)
     (λ i. ((c.self.view_is i).sent, sym c.send.ensures i))
     (hands_over _ _ _ _ _ _ c.self.invariant c.in-Ok.ensures.ok)
+
+pub returns-clause-fits : goal.returns-clause-fits
+returns-clause-fits g c =
+    subst (λ (f : FrontState). MayAccept f (change_asked c.args.command) c.in-Ok.taken.0)
+    (ap (λ (h : HandingState). h.front) c.self.view_is)
+    (may_accept _ _ _ _ _ _ c.self.invariant c.in-Ok.ensures.ok)

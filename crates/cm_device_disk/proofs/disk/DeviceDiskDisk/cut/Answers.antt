@@ -29,7 +29,7 @@ returns-in-Ok-clause-called g c = record {
   fails = search rules;
   cause = search rules;
   call = Cut c.args.len;
-  on_device = search rules;
+  made = record { on_disk = search rules; on_state = search rules; on_device = search rules };
 }
 
 pub returns-in-Err-clause-called : goal.returns-in-Err-clause-called
@@ -38,5 +38,5 @@ returns-in-Err-clause-called g c = record {
   fails = search rules;
   cause = search rules;
   call = Cut c.args.len;
-  on_device = search rules;
+  made = record { on_disk = search rules; on_state = search rules; on_device = search rules };
 }

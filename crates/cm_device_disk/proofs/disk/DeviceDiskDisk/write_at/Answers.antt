@@ -32,7 +32,7 @@ returns-in-Ok-clause-called g c = record {
   fails = search rules;
   cause = search rules;
   call = Write c.args.at c.args.bytes.now;
-  on_device = search rules;
+  made = record { on_disk = search rules; on_state = search rules; on_device = search rules };
 }
 
 pub returns-in-Err-clause-called : goal.returns-in-Err-clause-called
@@ -41,5 +41,5 @@ returns-in-Err-clause-called g c = record {
   fails = search rules;
   cause = search rules;
   call = Write c.args.at c.args.bytes.now;
-  on_device = search rules;
+  made = record { on_disk = search rules; on_state = search rules; on_device = search rules };
 }

@@ -6,10 +6,11 @@ use Rattle.cm_library.proofs.opening.Opened.run_in_threads.Given as goal
 -- what was just opened, with what was made for it
 abbrev pub ghosts-run_each-K-Naming : goal.ghosts-run_each-K-Naming
 ghosts-run_each-K-Naming g a = record {
-  base = base_of a.committer;
+  base = base_of a.storage;
   channel = channel_of (sends_on a.new.channel.sender);
   board = a.new.board.table.shared.table_id;
-  failed = g.D.Disk.view.failures a.committer.disk;
+  failed = g.D.Disk.view.failures a.storage.disk;
+  passes = a.new.passes;
 }
 
 abbrev pub ghosts-run_each-K-Ledger : goal.ghosts-run_each-K-Ledger

@@ -1,6 +1,0 @@
-mod Halves
-mod FreeLists
-mod Holes
-mod Joins
-mod Spaces
-mod Pools

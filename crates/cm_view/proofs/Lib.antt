@@ -1,0 +1,9 @@
+mod Kept
+mod RowNames
+mod Takings
+mod Walked
+mod Listings
+mod Exact
+mod Standing
+mod Cache
+mod Opened
