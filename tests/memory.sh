@@ -32,7 +32,7 @@ beside sweep_program "$work/script" 91 format FILE
 # Only opening a file, and checking it.
 beside sweep_program /dev/null 360 apply FILE
 beside sweep_program /dev/null 276 check FILE
-beside sweep_program /dev/null 430 list FILE
+beside sweep_program /dev/null 384 list FILE
 # The same with two workers, which read and judge records and prepare classes.
 beside sweep_program /dev/null 375 apply FILE --workers 2
 beside sweep_program "$work/script" 447 apply FILE --workers 2
@@ -43,7 +43,7 @@ sweep_threads() {
     WORK=$work tests/refused_memory.py "$files" "$1" threads FILE --threads 1
     check_last "a cache for threads with a refused allocation"
 }
-beside sweep_threads 404
+beside sweep_threads 405
 end_sweeps
 
 bench=$(find_program cm_bench)
