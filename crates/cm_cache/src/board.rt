@@ -12,6 +12,7 @@ use crate::board_rule::{
     BoardRule, Compares, Enters, Hears, PostsBroken, PostsNumber, SeesBroken, SeesNumber,
 };
 use crate::board_view::{BoardView, Seen};
+use crate::lanes::Lanes;
 use crate::naming::Naming;
 use atomic_table::{Seat, Table};
 use cm_commit::Committer;
@@ -19,7 +20,7 @@ use cm_disk::Disk;
 use cm_group::Receipt;
 use std::alloc::{AllocError, Global};
 use std::marker::{Model, PhantomData};
-use std::sync::{Condvar, Mutex, Wait};
+use std::sync::Wait;
 
 /// The word with the number of the newest receipt.
 const NUMBER: usize = 0;
@@ -33,6 +34,7 @@ pub struct NewBoard {
     pub(crate) number: u64,
     table: Table<(), BoardView, u64, BoardRule, Global>,
     seat: Seat<(), BoardView>,
+    lanes: Lanes,
     ghost has_words: { table.shared.table_id.words ≡ 2 },
     ghost has_seat: { seat.table_id ≡ table.shared.table_id },
     ghost is_new: { seat.me ≡ (poster_view number, []) },
@@ -48,6 +50,7 @@ impl NewBoard {
             number,
             table,
             seat,
+            lanes: Lanes::new(alloc)?,
         })
     }
 
@@ -56,15 +59,20 @@ impl NewBoard {
         requires { self.table.shared.table_id ≡ K.board }
         ensures { result.1 ≡ record { receipt = record { number = self.number }; broken = false } }
     {
-        let NewBoard { table, seat, .. } = self;
+        let NewBoard {
+            number,
+            table,
+            seat,
+            lanes,
+        } = self;
         let board = Board {
             table,
-            waiting: Mutex::new(()),
-            posted: Condvar::new(),
+            lanes,
             of: PhantomData,
         };
         let poster = Poster {
             seat,
+            number,
             of: PhantomData,
         };
         (board, poster)
@@ -76,10 +84,7 @@ impl NewBoard {
 #[derive(Drop)]
 pub struct Board<K: Naming> {
     table: Table<(), BoardView, u64, BoardRule, Global>,
-    // A reader looks and goes to sleep under this lock, and the writer takes it before it wakes
-    // them, so no reader sleeps through what was just posted.
-    waiting: Mutex<()>,
-    posted: Condvar,
+    lanes: Lanes,
     of: PhantomData<K>,
     ghost is_named: { table.shared.table_id ≡ K.board },
     ghost has_words: { table.shared.table_id.words ≡ 2 },
@@ -96,19 +101,14 @@ impl<K: Naming> Board<K> {
             of: PhantomData,
         }
     }
-
-    /// Wakes all readers that wait.
-    fn wake<R: Wait>(&self, rt: &R) {
-        // Without the lock, or each reader would wake only to wait for it.
-        drop(self.waiting.lock(rt));
-        self.posted.notify_all();
-    }
 }
 
 /// The right to write on the Board. Contracts describe it by what the Board says.
 #[derive(Drop)]
 pub struct Poster<K: Naming> {
     seat: Seat<(), BoardView>,
+    // what the Board says
+    number: u64,
     of: PhantomData<K>,
 }
 
@@ -122,13 +122,14 @@ impl<K: Naming> Model for Poster<K> {
     ghost view = { λ p. seen_by p.seat.me.0 };
 
     ghost invariant = { λ p.
-        (p.seat.table_id ≡ K.board) × (p.seat.me.0.posts ≡ true) × (p.seat.me.1 ≡ []) };
+        (p.seat.table_id ≡ K.board) × (p.seat.me.0.posts ≡ true) × (p.seat.me.1 ≡ [])
+        × (p.seat.me.0.number ≡ p.number) };
 }
 
 impl<K: Naming> Poster<K> {
-    /// Writes that all commands up to the committer's number are durable, and wakes the readers.
-    /// These are commands of this cache, and whatever a crash leaves of the committer's disk from
-    /// then on has them.
+    /// Writes that all commands up to the committer's number are durable, and wakes the readers
+    /// that wait for them. These are commands of this cache, and whatever a crash leaves of the
+    /// committer's disk from then on has them.
     pub fn post<R: Wait, D: Disk>(&mut self, rt: &R, board: &Board<K>, committer: &Committer<D>)
         requires later { self.old.receipt.number ≤ committer.now.number }
         requires has { (done : List Carried) × HasCommitted K.base done committer.now }
@@ -141,8 +142,9 @@ impl<K: Naming> Poster<K> {
             (ShowsFrom committer.now.sizes self.new.receipt.number) }
     {
         committer.images();
-        self.write_number(board, committer.number());
-        board.wake(rt);
+        let (old, new) = (self.number, committer.number());
+        self.write_number(board, new);
+        board.lanes.wake(rt, old, new);
     }
 
     /// Writes that the device failed, and wakes the readers.
@@ -150,7 +152,7 @@ impl<K: Naming> Poster<K> {
         ensures { self.new ≡ record { receipt = self.old.receipt; broken = true } }
     {
         self.write_broken(board);
-        board.wake(rt);
+        board.lanes.wake_all(rt);
     }
 
     fn write_number(&mut self, board: &Board<K>, number: u64)
@@ -162,6 +164,7 @@ impl<K: Naming> Poster<K> {
     {
         let shared = &board.table.shared;
         shared.store::<PostsNumber>(&mut self.seat, NUMBER, number);
+        self.number = number;
     }
 
     fn write_broken(&mut self, board: &Board<K>)
@@ -243,7 +246,7 @@ impl<K: Naming> Reader<K> {
     }
 
     /// Waits until the Board says that all commands up to this number are durable, or that the
-    /// device failed. Takes the Board's own lock, and no other.
+    /// device failed. Takes a lock of the Board's own, and no other.
     pub fn wait_for<R: Wait>(&mut self, rt: &R, board: &Board<K>, number: u64) -> Seen
         ensures seen { self.new.seen ≡ result }
         ensures looked { HasLookedSince self.old.loads result self.new.loads }
@@ -251,13 +254,14 @@ impl<K: Naming> Reader<K> {
         ensures broken { self.old.seen.broken ≡ true → result.broken ≡ true }
         ensures news { (number ≤ result.receipt.number) ⊎ (result.broken ≡ true) }
     {
-        let mut guard = board.waiting.lock(rt);
+        let lane = board.lanes.lane(number);
+        let mut guard = lane.waiting.lock(rt);
         for _ in rt.forever() {
             let seen = self.look(board);
             if seen.receipt.number >= number || seen.broken {
                 return seen;
             }
-            guard = board.posted.wait(rt, guard);
+            guard = lane.posted.wait(rt, guard);
         }
         unreachable!()
     }

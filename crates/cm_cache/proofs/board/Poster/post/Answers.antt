@@ -7,6 +7,6 @@ pub returns-clause-stored : goal.returns-clause-stored
 returns-clause-stored g c = record {
   each = λ image is.
       shows_from c.args.committer.now _
-      (ap (λ (s : Seen). s.receipt.number) c.write_number.ensures ∙ c.number.ensures) image
+      (ap (λ (s : Seen). s.receipt.number) c.write_number.ensures ∙ c.number-new.ensures) image
       (c.images.ensures.each image is);
 }
