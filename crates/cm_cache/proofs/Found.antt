@@ -1,7 +1,7 @@
 -- What is found has the requested name.
 -- For `Cache::find`.
 use Rattle.std.proofs.Common.{◌≡◌, ℕ, Bool, true, false, cond, List, [], ◌∷◌, Option, Some, None}
-use Rattle.std.proofs.Common.{refl, sym, ap, ◌∙◌, eqb}
+use Rattle.std.proofs.Common.{refl, sym, ◌∙◌, eqb}
 use Rattle.std.specs.Prelude.{◌&&◌, IfSome, Result, Ok, Err, IfOk}
 use Rattle.std.specs.Option.{option_map}
 use Rattle.std.specs.Str.{bytes_eq}

@@ -1,4 +1,5 @@
 mod ChannelSteps
+mod Apart
 mod BoardSteps
 mod Tied
 mod Shown

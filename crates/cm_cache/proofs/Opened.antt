@@ -1,6 +1,6 @@
 -- What is opened is fresh, and its committer holds what was opened.
 -- For `opened_may_start`.
-use Rattle.std.proofs.Common.{◌≡◌, ℕ, ◌+◌, List, [], length, false, None, refl, sym, ap, subst, ◌∙◌}
+use Rattle.std.proofs.Common.{◌≡◌, ℕ, List, [], refl, sym, ap, subst, ◌∙◌}
 use Rattle.std.proofs.Common.{arith}
 use Rattle.cm_record.specs.Layout.{lay}
 use Rattle.cm_record.specs.Names.{WordsTellName}

@@ -1,6 +1,6 @@
 -- What a witness of a pass shows once it is compared with all that was sent.
 -- For `Shared::hold`, `Tally::take`.
-use Rattle.std.proofs.Common.{◌≡◌, ℕ, ◌+◌, List, [], ◌∷◌, ◌++◌, length, refl, sym, ap}
+use Rattle.std.proofs.Common.{◌≡◌, ℕ, List, [], ◌∷◌, ◌++◌, refl, sym, ap}
 use Rattle.std.proofs.Common.{◌∙◌, subst, append_assoc}
 use Rattle.std.proofs.lemmas.List.Elements.{All-push}
 use Rattle.cm_group.specs.Groups.{Carried}
@@ -10,6 +10,7 @@ use Rattle.cm_cache.specs.declared.channel.Message.{Message}
 use Rattle.cm_cache.specs.declared.channel.Message.TheVariants.{Group, End}
 use Rattle.cm_cache.specs.Channel.{entries_of}
 use Rattle.cm_cache.specs.Handing.{HandsOver, IsHanded, AreHanded}
+use Rattle.cm_cache.specs.Shared.{numbers_of}
 use Rattle.cm_cache.proofs.Tied.{entries-append}
 
 pub entries_join : (a b : List Message) → entries_of (a ++ b) ≡ entries_of a ++ entries_of b
@@ -53,6 +54,11 @@ all_shown base shown sent changes are known =
     subst (λ l. AreHanded base l changes)
     (sym (ap entries_of known.1 ∙ entries_join shown known.0))
     (λ k d below. handed_still base (entries_of shown) (entries_of known.0) _ _ (are k d below))
+
+pub numbers_of_more : (changes : List (Change (List ℕ) × ℕ)) (change : Change (List ℕ)) (n : ℕ)
+    → numbers_of (changes ++ (change, n) ∷ []) ≡ numbers_of changes ++ n ∷ []
+numbers_of_more [] change n = refl
+numbers_of_more (c ∷ changes) change n = ap (λ l. c.1 ∷ l) (numbers_of_more changes change n)
 
 -- with the one that was sent just now
 pub one_more_shown : (base : Base) (shown before sent : List Message)

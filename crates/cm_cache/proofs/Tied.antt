@@ -28,8 +28,8 @@ use Rattle.cm_handover.proofs.{filled_again, rows_after_two}
 use Rattle.cm_cache.specs.declared.channel.Base.{Base}
 use Rattle.cm_cache.specs.declared.channel.Message.{Message}
 use Rattle.cm_cache.specs.declared.channel.Message.TheVariants.{Group, End}
-use Rattle.cm_cache.specs.Channel.{entries_of, is_open}
-use Rattle.cm_cache.specs.Handing.{HandingState, rows_sent, number_sent, IsTied, IsFresh}
+use Rattle.cm_cache.specs.Channel.{entries_of, is_open, number_sent}
+use Rattle.cm_cache.specs.Handing.{HandingState, rows_sent, IsTied, IsFresh}
 use Rattle.cm_cache.specs.Handing.{MayAccept, TakesOut, HandsOver, SameMarks, with_receipt}
 
 -- ---- messages

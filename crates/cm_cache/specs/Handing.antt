@@ -16,7 +16,7 @@ use Rattle.cm_cache.specs.declared.board_view.Seen.{Seen}
 use Rattle.cm_cache.specs.declared.channel.Base.{Base}
 use Rattle.cm_cache.specs.declared.channel.Message.{Message}
 use Rattle.cm_cache.specs.declared.channel.Message.TheVariants.{Group}
-use Rattle.cm_cache.specs.Channel.{entries_of, is_open}
+use Rattle.cm_cache.specs.Channel.{entries_of, is_open, number_sent}
 
 -- the accepted cache, and all that was sent
 pub record HandingState : Type 0 where
@@ -34,12 +34,9 @@ handing_code =
     (λ t. record { front = t.0; sent = t.1 })
     (λ _. refl)
 
--- the rows and the number after all that was sent
+-- the rows after all that was sent
 abbrev pub rows_sent : Base → List Message → List (Row (List ℕ))
 rows_sent base sent = rows_after_group base.rows (entries_of sent)
-
-abbrev pub number_sent : Base → List Message → ℕ
-number_sent base sent = base.number + length (entries_of sent)
 
 -- What was opened are rows of a cache. Nothing that was accepted is held back. What was sent is
 -- what the cache has learnt to be durable, followed by the entries by which it is ahead of that.

@@ -1,6 +1,6 @@
 -- What lies under the lock, and the passes through which it is used.
 use Rattle.std.specs.Prelude.{◌≡◌, ℕ, ◌+◌, ◌≤◌, Bool, true, false, List, [], ◌∷◌, ◌++◌}
-use Rattle.std.specs.Prelude.{length, refl}
+use Rattle.std.specs.Prelude.{length, map, refl}
 use Rattle.std.specs.List.{All}
 use Rattle.std.specs.Prelude.{Result, IfOk, IfErr}
 use Rattle.std.specs.Coded.{Coded, code_by, coded×, coded_list, codes}
@@ -28,6 +28,15 @@ pub record PassState : Type 0 where
   pub changes : List (Change (List ℕ) × ℕ)
   pub loads : List Load
   pub holds : List Hold
+
+-- the numbers of these changes
+abbrev pub numbers_of : List (Change (List ℕ) × ℕ) → List ℕ
+numbers_of changes = map (λ (c : Change (List ℕ) × ℕ). c.1) changes
+
+-- the numbers of all changes of these passes
+abbrev pub numbers_of_passes : List PassState → List ℕ
+numbers_of_passes [] = []
+numbers_of_passes (p ∷ passes) = numbers_of p.changes ++ numbers_of_passes passes
 
 -- the Board was read once more
 abbrev pub looked : PassState → Seen → PassState

@@ -257,8 +257,8 @@ impl<K: Naming> Cache<K> {
             p.seen.receipt.number ≤ K.base.number + result.committed) passes.items }
         ensures images { LeavesBeginning K.base result.handed result.committed
             (D.view.contents result.disk) (D.view.unsynced result.disk) }
-        ensures changes { HoldsChanges K.base result.handed result.committed passes.items
-            (D.view.contents result.disk) (D.view.unsynced result.disk) }
+        ensures changes { HoldsChanges K.base result.handed result.committed result.missing
+            passes.items (D.view.contents result.disk) (D.view.unsynced result.disk) }
         ensures whole { D.view.failures result.disk ≡ K.failed
             → (result.committed ≡ result.handed)
             × All (λ (p : PassState). p.marked ≡ false) passes.items }

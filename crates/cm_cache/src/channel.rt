@@ -38,4 +38,6 @@ pub struct ChannelView {
     pub received: LinkedList<Message>,
     /// A beginning of all that was sent, as a witness knows it.
     pub known: LinkedList<Message>,
+    /// The numbers of sent commands that belong to this end alone.
+    pub owned: LinkedList<u64>,
 }

@@ -71,15 +71,24 @@ impl Lesson<Message, ChannelView> for Beginning {
     ghost fact = { IsBeginning };
 }
 
-/// Makes a witness of what was sent by now, and joins it again.
+/// No two numbers that belong to this end are the same.
+pub(crate) struct Apart;
+
+impl Lesson<Message, ChannelView> for Apart {
+    ghost use Rattle.cm_cache.specs.Channel.{OwnsApart};
+
+    ghost fact = { OwnsApart };
+}
+
+/// Makes a witness of what was sent by now, with all numbers of this end, and joins it again.
 pub(crate) struct Witnessing;
 
 impl Split<ChannelView> for Witnessing {
-    ghost use Rattle.cm_cache.specs.Channel.{witness};
+    ghost use Rattle.cm_cache.specs.Channel.{giving, witness};
 
-    ghost left = { λ v. v };
+    ghost left = { giving };
 
-    ghost right = { λ v. witness v.sent };
+    ghost right = { λ v. witness v.sent v.owned };
 }
 
 impl Join<ChannelView> for Witnessing {

@@ -5,11 +5,12 @@ ghost use Rattle.std.specs.Prelude.{IfNone};
 ghost use Rattle.crossbeam_channel.specs.Claims.{IsSeatAt};
 ghost use Rattle.crossbeam_channel.specs.Ends.{sends_on, receives_on};
 ghost use Rattle.cm_cache.specs.Channel.{both_ends, channel_of, entries_of, is_open, known_to};
-ghost use Rattle.cm_cache.specs.Channel.{no_base, shown_by, InOrder, MayBeSent};
+ghost use Rattle.cm_cache.specs.Channel.{no_base, owned_by, sent_more, shown_by};
+ghost use Rattle.cm_cache.specs.Channel.{AreApart, InOrder, MayBeSent};
 
 use crate::channel::{ChannelView, Message};
 use crate::channel_rule::{
-    Beginning, ChannelRule, Ordered, Received, Roles, Sent, Total, Witnessing,
+    Apart, Beginning, ChannelRule, Ordered, Received, Roles, Sent, Total, Witnessing,
 };
 use crate::naming::Naming;
 use crossbeam_channel::{Pass, RuledReceiver, RuledSender, bounded_with};
@@ -45,7 +46,7 @@ impl NewChannel {
     /// The two ends of the channel of the cache that K names.
     pub fn named<K: Naming>(self) -> (Outgoing<K>, Incoming<K>)
         requires { channel_of (sends_on self.sender) ≡ K.channel }
-        ensures sent { result.0 ≡ [] }
+        ensures sent { result.0 ≡ record { sent = []; owned = [] } }
         ensures received { result.1 ≡ [] }
     {
         let NewChannel {
@@ -68,7 +69,8 @@ impl NewChannel {
     }
 }
 
-/// The end that sends. Contracts describe it by all that was sent, oldest first.
+/// The end that sends. Contracts describe it by all that was sent, oldest first, and by the numbers
+/// of sent commands that belong to it: those that no witness has.
 #[derive(Drop)]
 pub struct Outgoing<K: Naming> {
     sender: RuledSender<Message, ChannelView, ChannelRule>,
@@ -77,15 +79,15 @@ pub struct Outgoing<K: Naming> {
 }
 
 impl<K: Naming> Model for Outgoing<K> {
-    ghost use Rattle.std.specs.Prelude.{◌≡◌, true, List};
+    ghost use Rattle.std.specs.Prelude.{◌≡◌, true};
     ghost use Rattle.crossbeam_channel.specs.Claims.{IsSeatAt};
     ghost use Rattle.crossbeam_channel.specs.Ends.{sends_on};
-    ghost use Rattle.cm_cache.specs.declared.channel.Message.{Message};
-    ghost use Rattle.cm_cache.specs.Channel.{known_to, channel_of};
+    ghost use Rattle.cm_cache.specs.Channel.{OutgoingState, known_to, channel_of};
 
-    ghost Value = { List Message };
+    ghost Value = { OutgoingState };
 
-    ghost view = { λ o. (known_to o.pass).sent };
+    ghost view = { λ o.
+        record { sent = (known_to o.pass).sent; owned = (known_to o.pass).owned } };
 
     ghost invariant = { λ o.
         IsSeatAt (sends_on o.sender) o.pass × (channel_of (sends_on o.sender) ≡ K.channel)
@@ -118,7 +120,8 @@ impl<K: Naming> Model for Incoming<K> {
         × (known_to o.pass ≡ receiver_view K.base (known_to o.pass).received) };
 }
 
-/// Shows what had been sent when it was made. Contracts describe it by that, oldest first.
+/// Shows what had been sent when it was made. Contracts describe it by that, oldest first, and by
+/// the numbers of sent commands that belong to it alone.
 #[derive(Drop)]
 pub struct Witness<K: Naming> {
     pass: Pass<Message, ChannelView>,
@@ -126,32 +129,32 @@ pub struct Witness<K: Naming> {
 }
 
 impl<K: Naming> Model for Witness<K> {
-    ghost use Rattle.std.specs.Prelude.{◌≡◌, [], List};
-    ghost use Rattle.cm_cache.specs.declared.channel.Message.{Message};
-    ghost use Rattle.cm_cache.specs.Channel.{known_to};
+    ghost use Rattle.std.specs.Prelude.{◌≡◌, []};
+    ghost use Rattle.cm_cache.specs.Channel.{WitnessState, known_to};
     ghost use Rattle.cm_cache.specs.Channel.{witness as witness_view};
 
-    ghost Value = { List Message };
+    ghost Value = { WitnessState };
 
-    ghost view = { λ w. (known_to w.pass).known };
+    ghost view = { λ w.
+        record { known = (known_to w.pass).known; owned = (known_to w.pass).owned } };
 
     ghost invariant = { λ w.
         (w.pass.table_id ≡ K.channel.table) × (w.pass.me.0.of ≡ K.channel.key)
-        × (w.pass.me.1 ≡ []) × (known_to w.pass ≡ witness_view (known_to w.pass).known) };
+        × (w.pass.me.1 ≡ [])
+        × (known_to w.pass ≡ witness_view (known_to w.pass).known (known_to w.pass).owned) };
 }
 
 /// What stays of the channel once both ends are back in one thread. Contracts describe it by all
-/// that was sent, oldest first.
+/// that was sent, oldest first, and by the numbers of the witnesses that it heard.
 #[derive(Drop)]
 pub struct Settled<K: Naming> {
     outgoing: Outgoing<K>,
 }
 
 impl<K: Naming> Model for Settled<K> {
-    ghost use Rattle.std.specs.Prelude.{List};
-    ghost use Rattle.cm_cache.specs.declared.channel.Message.{Message};
+    ghost use Rattle.cm_cache.specs.Channel.{OutgoingState};
 
-    ghost Value = { List Message };
+    ghost Value = { OutgoingState };
 
     ghost view = { λ s. s.outgoing };
 }
@@ -160,15 +163,15 @@ impl<K: Naming> Outgoing<K> {
     /// Shows that what was sent is in order.
     pub fn ordered(&mut self)
         ensures same { self.new ≡ self.old }
-        ensures ordered { InOrder K.base [] self.old }
+        ensures ordered { InOrder K.base [] self.old.sent }
     {
         self.sender.learn_as::<Ordered>(&mut self.pass);
     }
 
-    /// Shows later what was sent by now.
+    /// Shows later what was sent by now. All numbers of this end belong to the witness from now on.
     pub fn witness(&mut self) -> Witness<K>
-        ensures same { self.new ≡ self.old }
-        ensures sent { result ≡ self.old }
+        ensures given { self.new ≡ record { sent = self.old.sent; owned = [] } }
+        ensures shows { result ≡ record { known = self.old.sent; owned = self.old.owned } }
     {
         let pass = self.sender.another::<Witnessing>(&mut self.pass);
         Witness {
@@ -177,10 +180,14 @@ impl<K: Naming> Outgoing<K> {
         }
     }
 
-    /// Shows that what a witness knows, if there is one, is a beginning of what was sent.
+    /// Shows that what a witness knows, if there is one, is a beginning of what was sent. Its
+    /// numbers belong to this end from now on.
     pub fn hear(&mut self, witness: Option<Witness<K>>)
-        ensures same { self.new ≡ self.old }
-        ensures known { (rest : List Message) × (self.old ≡ shown_by witness ++ rest) }
+        ensures taken { self.new ≡ record {
+          sent = self.old.sent;
+          owned = self.old.owned ++ owned_by witness;
+        } }
+        ensures known { (rest : List Message) × (self.old.sent ≡ shown_by witness ++ rest) }
     {
         match witness {
             Some(witness) => self.hear_one(witness),
@@ -189,20 +196,32 @@ impl<K: Naming> Outgoing<K> {
     }
 
     fn hear_one(&mut self, witness: Witness<K>)
-        ensures same { self.new ≡ self.old }
-        ensures known { (rest : List Message) × (self.old ≡ witness ++ rest) }
+        ensures taken { self.new ≡ record {
+          sent = self.old.sent;
+          owned = self.old.owned ++ witness.owned;
+        } }
+        ensures known { (rest : List Message) × (self.old.sent ≡ witness.known ++ rest) }
     {
         let Witness { pass, .. } = witness;
         self.sender.absorb::<Witnessing>(&mut self.pass, pass);
         self.sender.learn_as::<Beginning>(&mut self.pass);
     }
 
+    /// Shows that the numbers which belong to this end are apart.
+    pub fn apart(&mut self)
+        ensures same { self.new ≡ self.old }
+        ensures apart { AreApart self.old.owned }
+    {
+        self.sender.learn_as::<Apart>(&mut self.pass);
+    }
+
     /// Sends a message: a group that continues those that were sent, or the End, after which
-    /// nothing is sent. Waits while the channel is full.
+    /// nothing is sent. The numbers of its commands belong to this end. Waits while the channel is
+    /// full.
     pub fn send<R: Wait>(&mut self, rt: &R, message: Message)
-        requires still_open { is_open self.old ≡ true }
-        requires may { MayBeSent K.base (entries_of self.old) message }
-        ensures { self.new ≡ self.old ++ message ∷ [] }
+        requires still_open { is_open self.old.sent ≡ true }
+        requires may { MayBeSent K.base (entries_of self.old.sent) message }
+        ensures { self.new ≡ sent_more K.base self.old message }
     {
         let mut message = message;
         for _ in rt.forever() {
@@ -216,9 +235,9 @@ impl<K: Naming> Outgoing<K> {
 
     // The message comes back if the channel reports an error: no clause says when it does.
     fn send_once<R: Wait>(&mut self, rt: &R, message: Message) -> Result<(), Message>
-        requires still_open { is_open self.old ≡ true }
-        requires may { MayBeSent K.base (entries_of self.old) message }
-        ensures ok { OnOk result (self.new ≡ self.old ++ message ∷ []) }
+        requires still_open { is_open self.old.sent ≡ true }
+        requires may { MayBeSent K.base (entries_of self.old.sent) message }
+        ensures ok { OnOk result (self.new ≡ sent_more K.base self.old message) }
         ensures err { IfErr result (λ back. (back ≡ message) × (self.new ≡ self.old)) }
     {
         match self.sender.send_as::<Sent, R>(rt, &mut self.pass, message) {
@@ -230,10 +249,10 @@ impl<K: Naming> Outgoing<K> {
     /// Shows what both ends know, once they are back in one thread: what was sent is in order, what
     /// was received is a beginning of it, and if the End was received, all of it was.
     pub fn settle(self, other: Incoming<K>) -> Settled<K>
-        ensures same { result ≡ self }
-        ensures ordered { InOrder K.base [] self }
-        ensures beginning { (rest : List Message) × (self ≡ other ++ rest) }
-        ensures whole { is_open other ≡ false → self ≡ other }
+        ensures same { result ≡ record { sent = self.sent; owned = [] } }
+        ensures ordered { InOrder K.base [] self.sent }
+        ensures beginning { (rest : List Message) × (self.sent ≡ other ++ rest) }
+        ensures whole { is_open other ≡ false → self.sent ≡ other }
     {
         let Outgoing {
             sender,
@@ -254,12 +273,18 @@ impl<K: Naming> Outgoing<K> {
 }
 
 impl<K: Naming> Settled<K> {
-    /// Shows that what a witness knows is a beginning of what was sent.
+    /// Shows that what a witness knows is a beginning of what was sent, and that none of its
+    /// numbers belongs to a witness that was heard before.
     pub fn hear(&mut self, witness: Option<Witness<K>>)
-        ensures same { self.new ≡ self.old }
-        ensures known { (rest : List Message) × (self.old ≡ shown_by witness ++ rest) }
+        ensures taken { self.new ≡ record {
+          sent = self.old.sent;
+          owned = self.old.owned ++ owned_by witness;
+        } }
+        ensures known { (rest : List Message) × (self.old.sent ≡ shown_by witness ++ rest) }
+        ensures apart { AreApart self.new.owned }
     {
         self.outgoing.hear(witness);
+        self.outgoing.apart();
     }
 }
 

@@ -3,8 +3,7 @@
 ghost use Rattle.std.specs.Prelude.{◌≡◌, ◌-◌, ◌≤◌, ◌++◌, [], true, false, None, List, IfErr};
 ghost use Rattle.cm_guards.specs.Guards.{EachImage};
 ghost use Rattle.cm_guards.specs.Calls.{LeavesOnly};
-ghost use Rattle.cm_cache.specs.Channel.{entries_of};
-ghost use Rattle.cm_cache.specs.Handing.{number_sent};
+ghost use Rattle.cm_cache.specs.Channel.{entries_of, number_sent};
 ghost use Rattle.cm_cache.specs.Flushing.{HasCommitted, IsEnded, OnlyReceives};
 ghost use Rattle.cm_cache.specs.Flushing.{disk_after, posted_after, received_after};
 ghost use Rattle.cm_cache.specs.Closing.{ShowsBeginning, ShowsPosted};
@@ -357,14 +356,15 @@ impl<K: Naming, D: Disk> Ended<K, D> {
     pub(crate) fn leave(self, outgoing: Outgoing<K>) -> (u64, Poster<K>, Settled<K>, D)
         requires over { self.over ≡ true }
         ensures least { K.base.number ≤ result.0 }
-        ensures most { result.0 ≤ number_sent K.base outgoing }
-        ensures follow { AllFollow K.base.sizes K.base.rows K.base.number (entries_of outgoing) }
-        ensures sent { result.2 ≡ outgoing }
+        ensures most { result.0 ≤ number_sent K.base outgoing.sent }
+        ensures follow { AllFollow K.base.sizes K.base.rows K.base.number
+            (entries_of outgoing.sent) }
+        ensures settled { result.2 ≡ record { sent = outgoing.sent; owned = [] } }
         ensures images { EachImage (D.view.contents result.3) (D.view.unsynced result.3)
-            (ShowsBeginning K.base (entries_of outgoing) (result.0 - K.base.number)) }
+            (ShowsBeginning K.base (entries_of outgoing.sent) (result.0 - K.base.number)) }
         ensures says { result.1.receipt.number ≡ result.0 }
         ensures whole { D.view.failures result.3 ≡ K.failed
-            → (result.0 ≡ number_sent K.base outgoing) × (result.1.broken ≡ false) }
+            → (result.0 ≡ number_sent K.base outgoing.sent) × (result.1.broken ≡ false) }
     {
         let Ended {
             storage,

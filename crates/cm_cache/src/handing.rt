@@ -1,15 +1,16 @@
 //! The accepted cache, which sends each command that it accepts to the flusher at once.
 
-ghost use Rattle.std.specs.Prelude.{◌≡◌, ◌||◌, [], ◌∷◌, ◌++◌, true, List, IfOk, IfErr, OnErr};
+ghost use Rattle.std.specs.Prelude.{◌≡◌, ◌||◌, [], ◌∷◌, ◌++◌, true, List, Some};
+ghost use Rattle.std.specs.Prelude.{IfOk, IfErr, OnErr};
 ghost use Rattle.cm_state.specs.State.{state_of, words_show};
 ghost use Rattle.cm_commands.specs.Commands.{change_asked};
 ghost use Rattle.cm_front.specs.Front.{IsFront};
 ghost use Rattle.cm_front.specs.Accepting.{IsReason};
 ghost use Rattle.cm_handover.specs.Ahead.{AllFollow};
 ghost use Rattle.cm_handover.specs.Folding.{LeadTo};
-ghost use Rattle.cm_cache.specs.Channel.{entries_of, shown_by};
+ghost use Rattle.cm_cache.specs.Channel.{entries_of, number_sent, owned_by, shown_by};
 ghost use Rattle.cm_cache.specs.declared.channel.Message.TheVariants.{End};
-ghost use Rattle.cm_cache.specs.Handing.{rows_sent, number_sent, IsFresh, TakesOut, HandsOver};
+ghost use Rattle.cm_cache.specs.Handing.{rows_sent, IsFresh, TakesOut, HandsOver};
 ghost use Rattle.cm_cache.specs.Handing.{IsTied, MayAccept};
 ghost use Rattle.cm_cache.specs.Handing.{SameMarks, with_receipt, with_seen};
 
@@ -26,8 +27,8 @@ use cm_handover::{
 use std::marker::Model;
 use std::sync::Wait;
 
-/// The accepted cache with the end of the channel that sends. Whatever it accepted was sent.
-/// Contracts describe both.
+/// The accepted cache with the end of the channel that sends. Whatever it accepted was sent, and
+/// the number of each command belongs to a witness. Contracts describe both.
 #[derive(Drop)]
 pub struct Handing<K: Naming> {
     front: Front,
@@ -35,22 +36,25 @@ pub struct Handing<K: Naming> {
 }
 
 impl<K: Naming> Model for Handing<K> {
+    ghost use Rattle.std.specs.Prelude.{◌≡◌, []};
     ghost use Rattle.cm_cache.specs.Handing.{HandingState, IsTied, handing_code};
 
     ghost Value = { HandingState };
 
     ghost coded = { handing_code };
 
-    ghost view = { λ h. record { front = h.front; sent = h.outgoing } };
+    ghost view = { λ h. record { front = h.front; sent = h.outgoing.sent } };
 
-    ghost invariant = { λ h. IsTied K.base (record { front = h.front; sent = h.outgoing }) };
+    ghost invariant = { λ h.
+        IsTied K.base (record { front = h.front; sent = h.outgoing.sent })
+        × (h.outgoing.owned ≡ []) };
 }
 
 impl<K: Naming> Handing<K> {
     /// A cache that was just opened, with a channel over which nothing was sent.
     pub fn new(front: Front, outgoing: Outgoing<K>) -> Handing<K>
         requires front { IsFresh K.base front }
-        requires outgoing { outgoing ≡ [] }
+        requires outgoing { outgoing ≡ record { sent = []; owned = [] } }
         ensures { result ≡ record { front = front; sent = [] } }
     {
         Handing { front, outgoing }
@@ -86,22 +90,43 @@ impl<K: Naming> Handing<K> {
         self.outgoing.ordered();
     }
 
-    /// Accepts a command and sends it, or does neither. Waits while the channel is full.
-    pub fn hand_over<R: Wait>(&mut self, rt: &R, command: Command<'_>) -> Result<u64, Refusal>
+    /// Accepts a command and sends it, or does neither. In place of the witness there is then one
+    /// of all that was sent, to which the number of the command belongs too. Waits while the
+    /// channel is full.
+    pub fn hand_over<R: Wait>(
+        &mut self,
+        rt: &R,
+        command: Command<'_>,
+        witness: &mut Option<Witness<K>>,
+    ) -> Result<u64, Refusal>
         ensures ok { IfOk result
             (λ n. HandsOver K.base self.old.sent (change_asked command.entry) n self.new.sent) }
         ensures err { OnErr result (self.new ≡ self.old) }
         ensures reason { IfErr result (IsReason self.old.front (change_asked command.entry)) }
         ensures fits { IfOk result (MayAccept self.old.front (change_asked command.entry)) }
         ensures marks { SameMarks self.old.front self.new.front }
+        ensures known { (rest : List Message) × (self.new.sent ≡ shown_by witness.old ++ rest) }
+        ensures shown { IfOk result (λ n. witness.new ≡ Some (record {
+          known = self.new.sent;
+          owned = owned_by witness.old ++ n ∷ [];
+        })) }
+        ensures kept { OnErr result (witness.new ≡ Some (record {
+          known = self.new.sent;
+          owned = owned_by witness.old;
+        })) }
     {
         ahead_stays_ahead();
         groups_may_follow();
+        self.outgoing.hear(witness.take());
         let (number, group) = match take_out(&mut self.front, command) {
             Ok(taken) => taken,
-            Err(refusal) => return Err(refusal),
+            Err(refusal) => {
+                *witness = Some(self.outgoing.witness());
+                return Err(refusal);
+            }
         };
         self.outgoing.send(rt, Message::Group(group));
+        *witness = Some(self.outgoing.witness());
         Ok(number)
     }
 
@@ -166,25 +191,9 @@ impl<K: Naming> Handing<K> {
         self.front.invariant_holds();
     }
 
-    /// Shows that what a witness knows, if there is one, is a beginning of what was sent.
-    pub fn hear(&mut self, witness: Option<Witness<K>>)
-        ensures same { self.new ≡ self.old }
-        ensures known { (rest : List Message) × (self.old.sent ≡ shown_by witness ++ rest) }
-    {
-        self.outgoing.hear(witness);
-    }
-
-    /// Shows later what was sent by now.
-    pub fn witness(&mut self) -> Witness<K>
-        ensures same { self.new ≡ self.old }
-        ensures sent { result ≡ self.old.sent }
-    {
-        self.outgoing.witness()
-    }
-
     /// Sends the End, and drops the accepted cache. Waits while the channel is full.
     pub fn finish<R: Wait>(self, rt: &R) -> Outgoing<K>
-        ensures { result ≡ self.sent ++ End ∷ [] }
+        ensures { result.sent ≡ self.sent ++ End ∷ [] }
     {
         let Handing { mut outgoing, .. } = self;
         outgoing.send(rt, Message::End);

@@ -13,6 +13,7 @@ mod flusher;
 mod flushing;
 mod handing;
 mod holds;
+mod lanes;
 mod naming;
 mod new_cache;
 mod opening;

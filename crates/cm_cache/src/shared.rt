@@ -11,12 +11,12 @@ ghost use Rattle.cm_front.specs.Accepting.{IsReason};
 ghost use Rattle.cm_commands.specs.declared.refusal.Refusal.TheVariants as refusal;
 ghost use Rattle.cm_handover.specs.Ahead.{AllFollow};
 ghost use Rattle.cm_handover.specs.Folding.{LeadTo};
-ghost use Rattle.cm_cache.specs.Channel.{entries_of, shown_by};
-ghost use Rattle.cm_cache.specs.Handing.{rows_sent, number_sent, HandsOver, SameMarks, with_seen};
+ghost use Rattle.cm_cache.specs.Channel.{entries_of, number_sent, owned_by, shown_by};
+ghost use Rattle.cm_cache.specs.Handing.{rows_sent, HandsOver, SameMarks, with_seen};
 ghost use Rattle.cm_cache.specs.Handing.{AreHanded, IsTied};
 ghost use Rattle.cm_cache.specs.Board.{HasLookedSince};
 ghost use Rattle.cm_cache.specs.Holds.{hold_of, NothingStood, StoodAgainst};
-ghost use Rattle.cm_cache.specs.Shared.{counted, held, looked, most_passes};
+ghost use Rattle.cm_cache.specs.Shared.{counted, held, looked, most_passes, numbers_of};
 ghost use Rattle.cm_cache.specs.Shared.{IsNewPass, AreNewPasses};
 
 use crate::board::{Board, Reader};
@@ -51,16 +51,16 @@ pub struct Pass<K: Naming> {
     seen: Seen,
     marked: bool,
     changes: Changes,
-    // shows later that these changes were sent
+    // shows later that these changes were sent, and that their numbers are no other pass's
     witness: Option<Witness<K>>,
     holds: Holds,
 }
 
 impl<K: Naming> Model for Pass<K> {
     ghost use Rattle.std.specs.Prelude.{◌≡◌, true, length};
-    ghost use Rattle.cm_cache.specs.Channel.{entries_of, shown_by};
+    ghost use Rattle.cm_cache.specs.Channel.{entries_of, owned_by, shown_by};
     ghost use Rattle.cm_cache.specs.Handing.{AreHanded};
-    ghost use Rattle.cm_cache.specs.Shared.{PassState, pass_code};
+    ghost use Rattle.cm_cache.specs.Shared.{PassState, numbers_of, pass_code};
 
     ghost Value = { PassState };
 
@@ -78,6 +78,7 @@ impl<K: Naming> Model for Pass<K> {
     ghost invariant = { λ p.
         (p.share.parts ≡ 1) × (p.share.amount ≡ p.count) × (p.reader.seen ≡ p.seen)
         × (p.marked ≡ true → p.seen.broken ≡ true) × (length p.changes.all ≡ p.count)
+        × (owned_by p.witness ≡ numbers_of p.changes.all)
         × AreHanded K.base (entries_of (shown_by p.witness)) p.changes.all };
 }
 
@@ -165,6 +166,7 @@ impl<K: Naming> Pass<K> {
         ensures reader { result.2.seen ≡ self.seen }
         ensures marked { self.marked ≡ true → self.seen.broken ≡ true }
         ensures counted { length self.changes ≡ self.share }
+        ensures owned { owned_by result.3 ≡ numbers_of self.changes }
         ensures shown { AreHanded K.base (entries_of (shown_by result.3)) self.changes }
     {
         let Pass {
@@ -318,15 +320,13 @@ impl<K: Naming> Shared<K> {
         self.book.audit(&mut pass.share);
         let next = self.handing.front().number() + 1;
         let changes = pass.changes.one_more(&command, &next);
-        let number = match self.handing.hand_over(rt, command) {
+        let number = match self.handing.hand_over(rt, command, &mut pass.witness) {
             Ok(number) => number,
             Err(refusal) => return Err(refusal),
         };
         self.book.add(&mut pass.share, 1);
         pass.count += 1;
-        self.handing.hear(pass.witness.take());
         pass.changes = changes;
-        pass.witness = Some(self.handing.witness());
         Ok(number)
     }
 
@@ -342,7 +342,7 @@ impl<K: Naming> Shared<K> {
     pub(crate) fn finish<R: Wait>(self, rt: &R, opened: u64, passes: u64) -> (Outgoing<K>, Tally<K>)
         requires opened { opened ≡ K.base.number }
         requires passes { passes ≡ K.passes }
-        ensures handed { result.1.handed ≡ length (entries_of result.0) }
+        ensures handed { result.1.handed ≡ length (entries_of result.0.sent) }
         ensures missing { result.1.missing ≡ K.passes }
         ensures none { result.1.of_passes ≡ 0 }
     {

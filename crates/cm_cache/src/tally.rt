@@ -1,8 +1,8 @@
 //! Counts what was accepted, as the passes come back.
 
-ghost use Rattle.std.specs.Prelude.{◌≡◌, ◌+◌, ◌≤◌, true, length};
-ghost use Rattle.cm_cache.specs.Shared.{most_passes};
-ghost use Rattle.cm_cache.specs.Channel.{entries_of};
+ghost use Rattle.std.specs.Prelude.{◌≡◌, ◌+◌, ◌≤◌, ◌++◌, true, length};
+ghost use Rattle.cm_cache.specs.Shared.{most_passes, numbers_of};
+ghost use Rattle.cm_cache.specs.Channel.{entries_of, AreApart};
 ghost use Rattle.cm_cache.specs.Handing.{AreHanded};
 ghost use Rattle.cm_cache.specs.Closing.{AreTaken};
 
@@ -58,7 +58,7 @@ impl<K: Naming> Tally<K> {
     }
 
     /// Counts the commands of a pass that comes back, and shows that it has seen no more than what
-    /// the Board says, and that all its changes were sent.
+    /// the Board says, that all its changes were sent, and that their numbers are no other pass's.
     fn take(
         &mut self,
         poster: &mut Poster<K>,
@@ -73,9 +73,13 @@ impl<K: Naming> Tally<K> {
         ensures poster { poster.new ≡ poster.old }
         ensures seen { pass.seen.receipt.number ≤ poster.old.receipt.number }
         ensures marked { pass.marked ≡ true → poster.old.broken ≡ true }
-        ensures settled { settled.new ≡ settled.old }
+        ensures settled { settled.new ≡ record {
+          sent = settled.old.sent;
+          owned = settled.old.owned ++ numbers_of pass.changes;
+        } }
+        ensures apart { AreApart settled.new.owned }
         ensures counted { length pass.changes ≡ pass.share }
-        ensures changes { AreHanded K.base (entries_of settled.old) pass.changes }
+        ensures changes { AreHanded K.base (entries_of settled.old.sent) pass.changes }
     {
         let (share, count, reader, witness) = pass.into_parts();
         self.add(share, count);

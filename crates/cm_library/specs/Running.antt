@@ -1,7 +1,6 @@
 -- What a cache that was opened, used and closed leaves.
 use Rattle.std.specs.Prelude.{◌≡◌, ℕ, ◌+◌, ◌<◌, ◌≤◌, ◌⊎◌, nat_le, if◌then◌else◌, false, List, []}
-use Rattle.std.specs.Prelude.{◌∷◌, length, slice_index_or, vec_len, Result, Ok, Err, Option}
-use Rattle.std.specs.Prelude.{Some, None}
+use Rattle.std.specs.Prelude.{◌∷◌, length, slice_index_or, vec_len, Result, Ok, Err}
 use Rattle.std.specs.Global.{Vec}
 use Rattle.std.specs.List.{All, sum_by}
 use Rattle.cm_record.specs.Layout.{lay}
@@ -60,9 +59,10 @@ pub record IsNotOpened {D : Type 0} (view : View D) (begun ended : D)
 
 -- A cache that was opened with these rows is closed. Whatever a crash leaves of the disk holds them
 -- with a beginning of the commands that were accepted, at least those that count as committed. All
--- changes of each pass are among these commands, each at its number. The passes are those that it
--- was started with, except for those that are missing. If no call of the disk failed, all commands
--- are committed, and no pass is marked.
+-- changes of each pass are among these commands, each at its number, and if no pass is missing,
+-- each of these commands is one of their changes. The passes are those that it was started with,
+-- except for those that are missing. If no call of the disk failed, all commands are committed, and
+-- no pass is marked.
 pub record HasClosed {D : Type 0} (view : View D) (base : Base) (failures drawn : ℕ)
     (passes : List PassState) (counts : Counts) (disk : D) : Type 0 where
   pub shares : counts.of_passes ≡ sum_by (λ (p : PassState). p.share) passes
@@ -73,8 +73,8 @@ pub record HasClosed {D : Type 0} (view : View D) (base : Base) (failures drawn 
       passes
   pub images : LeavesBeginning base counts.handed counts.committed (view.contents disk)
       (view.unsynced disk)
-  pub changes : HoldsChanges base counts.handed counts.committed passes (view.contents disk)
-      (view.unsynced disk)
+  pub changes : HoldsChanges base counts.handed counts.committed counts.missing passes
+      (view.contents disk) (view.unsynced disk)
   pub whole : view.failures disk ≡ failures → counts.committed ≡ counts.handed
   pub sure : view.failures disk ≡ failures → All (λ (p : PassState). p.marked ≡ false) passes
 
@@ -91,12 +91,6 @@ pub record RunsWork {D : Type 0} (view : View D) (Keeps : List PassState → Typ
     (begun : D) (counts : Counts) (disk : D) : Type 0 where
   pub opens : HasOpened view begun
   pub done : Closes view Keeps (base_in opens.standing) (view.failures begun) drawn counts disk
-
--- Why no work was begun. The disk is dropped only if the cache was opened, and an allocation
--- failed, or a thread's start.
-abbrev pub IsNotBegun : {D : Type 0} → View D → D → OpenFault → Option D → Type 0
-IsNotBegun view begun fault (Some ended) = IsNotOpened view begun ended fault
-IsNotBegun view begun fault None = (fault ≡ open_fault.NoMemory) × HasOpened view begun
 
 -- what holds of a work's output and of its pass, which is the only one
 abbrev pub KeepsAlone : {T : Type 0} → (T → PassState → Type 0) → T → List PassState → Type 0

@@ -1,7 +1,6 @@
-use Rattle.std.proofs.Common.{List, ◌++◌, sym, ap, ◌∙◌}
+use Rattle.std.proofs.Common.{◌++◌, sym, ap, ◌∙◌}
 use Rattle.cm_cache.specs.declared.channel.ChannelView.{ChannelView}
-use Rattle.cm_cache.specs.declared.channel.Message.{Message}
-use Rattle.cm_cache.specs.Channel.{ChannelId}
+use Rattle.cm_cache.specs.Channel.{ChannelId, OutgoingState, WitnessState}
 use Rattle.cm_cache.proofs.ChannelSteps.{hears_witness, knows}
 use Rattle.cm_cache.proofs.ends.Outgoing.hear_one.Goals as goal
 
@@ -30,9 +29,18 @@ returns-clause-known g c =
     let absorbed = c.absorb.ensures.rule in
     let rule = c.learn_as.ensures.rule.1 in (
       rule.0,
-      sym c.self.view_is
+      sym (ap (λ (o : OutgoingState). o.sent) c.self.view_is)
           ∙ sym (ap (λ (v : ChannelView). v.sent) absorbed)
           ∙ rule.1
           ∙ ap (λ (v : ChannelView). v.known ++ rule.0) absorbed
-          ∙ ap (λ (l : List Message). l ++ rule.0) c.witness.view_is,
+          ∙ ap (λ (w : WitnessState). w.known ++ rule.0) c.witness.view_is,
     )
+
+pub returns-clause-taken : goal.returns-clause-taken
+returns-clause-taken g c =
+    ap (λ (v : ChannelView). record { sent = v.sent; owned = v.owned })
+    (c.learn_as.ensures.channel.2 ∙ c.absorb.ensures.rule)
+    ∙ (λ i. record {
+      sent = (c.self.view_is i).sent;
+      owned = (c.self.view_is i).owned ++ (c.witness.view_is i).owned;
+    })

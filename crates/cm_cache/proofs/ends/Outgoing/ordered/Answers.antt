@@ -1,6 +1,5 @@
-use Rattle.std.proofs.Common.{[], List, ap, sym, subst, ◌∙◌}
+use Rattle.std.proofs.Common.{[], List, subst}
 use Rattle.cm_cache.specs.declared.channel.Base.{Base}
-use Rattle.cm_cache.specs.declared.channel.ChannelView.{ChannelView}
 use Rattle.cm_cache.specs.declared.channel.Message.{Message}
 use Rattle.cm_cache.specs.Channel.{InOrder}
 use Rattle.cm_cache.proofs.ChannelSteps.{orders}
@@ -13,5 +12,5 @@ learn_as-requires-clause-rule g c =
 pub returns-clause-ordered : goal.returns-clause-ordered
 returns-clause-ordered g c =
     subst (λ (t : Base × List Message). InOrder t.0 [] t.1)
-    (λ i. (c.self.invariant.3 i, c.self.view_is i))
+    (λ i. (c.self.invariant.3 i, (c.self.view_is i).sent))
     c.learn_as.ensures.rule.1

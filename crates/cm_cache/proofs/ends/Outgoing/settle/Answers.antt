@@ -1,6 +1,6 @@
-use Rattle.std.proofs.Common.{ap, ◌∙◌}
+use Rattle.std.proofs.Common.{[], ap, ◌∙◌}
 use Rattle.cm_cache.specs.declared.channel.ChannelView.{ChannelView}
-use Rattle.cm_cache.specs.Channel.{known_to}
+use Rattle.cm_cache.specs.Channel.{OutgoingState, known_to}
 use Rattle.cm_cache.proofs.ChannelSteps.{joins, totals, all_received}
 use Rattle.cm_cache.proofs.ends.Outgoing.settle.Goals as goal
 
@@ -17,7 +17,8 @@ learn_as-requires-clause-rule g c =
 pub returns-clause-whole : goal.returns-clause-whole
 returns-clause-whole g c =
     all_received (known_to c.absorb.new.pass) _ _ c.learn_as.ensures.rule.0
-    (ap (λ (v : ChannelView). v.sent) c.absorb.ensures.rule ∙ c.self.view_is)
+    (ap (λ (v : ChannelView). v.sent) c.absorb.ensures.rule
+    ∙ ap (λ (o : OutgoingState). o.sent) c.self.view_is)
     (ap (λ (v : ChannelView). v.received) c.absorb.ensures.rule ∙ c.other.view_is)
     c.learn_as.ensures.rule.1
 
@@ -32,5 +33,6 @@ invariant_of-result g c =
 
 pub returns-clause-same : goal.returns-clause-same
 returns-clause-same g c =
-    ap (λ (v : ChannelView). v.sent) (c.learn_as.ensures.channel.2 ∙ c.absorb.ensures.rule)
-    ∙ c.self.view_is
+    let is = c.learn_as.ensures.channel.2 ∙ c.absorb.ensures.rule in
+    ap (λ (v : ChannelView). record { sent = v.sent; owned = v.owned }) is
+    ∙ ap (λ (o : OutgoingState). record { sent = o.sent; owned = [] }) c.self.view_is

@@ -1,6 +1,5 @@
-use Rattle.std.proofs.Common.{List, sym, ap, ◌∙◌}
+use Rattle.std.proofs.Common.{sym, ap, ◌∙◌}
 use Rattle.cm_cache.specs.declared.channel.ChannelView.{ChannelView}
-use Rattle.cm_cache.specs.declared.channel.Message.{Message}
 use Rattle.cm_cache.specs.Channel.{ChannelId, witness as witness_view}
 use Rattle.cm_cache.proofs.ChannelSteps.{witnesses}
 use Rattle.cm_cache.proofs.ends.Outgoing.witness.Goals as goal
@@ -17,6 +16,5 @@ invariant_of-result g c =
       made.channel.2.1 ∙ ap (λ (i : ChannelId). i.key) named,
       made.channel.2.2,
       made.rule.1
-          ∙ ap (λ (l : List Message). witness_view l)
-          (sym (ap (λ (v : ChannelView). v.known) made.rule.1)),
+          ∙ sym (ap (λ (v : ChannelView). witness_view v.known v.owned) made.rule.1),
     )

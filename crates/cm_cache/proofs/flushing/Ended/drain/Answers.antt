@@ -1,6 +1,5 @@
-use Rattle.std.proofs.Common.{[], ◌++◌, List, refl, sym, ap, ◌∙◌, append_assoc}
+use Rattle.std.proofs.Common.{[], refl, sym}
 use Rattle.std.proofs.lemmas.List.{append-nil}
-use Rattle.cm_cache.specs.declared.channel.Message.{Message}
 use Rattle.cm_cache.proofs.flushing.Ended.drain.Goals as goal
 
 pub loop-init : goal.loop-init

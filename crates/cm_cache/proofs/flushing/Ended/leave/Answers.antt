@@ -1,4 +1,4 @@
-use Rattle.std.proofs.Common.{◌≡◌, ℕ, ◌-◌, sym, ap, subst, ◌∙◌}
+use Rattle.std.proofs.Common.{◌-◌, sym, ap, subst, ◌∙◌}
 use Rattle.cm_guards.specs.Guards.{EachImage}
 use Rattle.cm_commit.specs.States.{CommitterState, MayLeave}
 use Rattle.cm_cache.specs.Channel.{entries_of}
@@ -14,7 +14,7 @@ pub returns-clause-images : goal.returns-clause-images
 returns-clause-images g c =
     let view = g.D.Disk.view in
     let base = g.K.Naming.base in
-    let sent = entries_of c.args.outgoing in
+    let sent = entries_of c.args.outgoing.sent in
     let i = c.self.invariant in
     let all = c.settle-settled.ensures.whole
     (i.ended (ap (λ (e : EndedState _). e.over) c.self.view_is ∙ c.requires.over)) in

@@ -1,4 +1,4 @@
-use Rattle.std.proofs.Common.{List, [], ◌∷◌, ◌++◌, Some, refl, sym, ap, subst, ◌∙◌}
+use Rattle.std.proofs.Common.{[], ◌∷◌, ◌++◌, Some, refl, sym, ap, subst, ◌∙◌}
 use Rattle.cm_group.specs.Groups.{Handed}
 use Rattle.cm_cache.specs.Channel.{entries_of, MayBeSent}
 use Rattle.cm_cache.specs.Flushing.{IsFlushing}

@@ -1,9 +1,8 @@
-use Rattle.std.proofs.Common.{List, sym, ap, subst, arith}
+use Rattle.std.proofs.Common.{sym, ap, subst, arith}
 use Rattle.cm_commit.specs.States.{CommitterState}
 use Rattle.cm_guards.specs.Calls.{LeavesOnly}
 use Rattle.cm_guards.proofs.{leaves_none}
 use Rattle.cm_cache.specs.declared.board_view.Seen.{Seen}
-use Rattle.cm_cache.specs.declared.channel.Message.{Message}
 use Rattle.cm_cache.specs.Closing.{ShowsPosted}
 use Rattle.cm_cache.proofs.Flushed.{receives_on}
 use Rattle.cm_cache.proofs.Moments.{run_goes, run_grows, run_stores}

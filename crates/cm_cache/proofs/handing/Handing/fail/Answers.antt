@@ -5,9 +5,11 @@ use Rattle.cm_cache.proofs.Tied.{failed_is_tied}
 use Rattle.cm_cache.proofs.handing.Handing.fail.Goals as goal
 
 pub invariant_of-self : goal.invariant_of-self
-invariant_of-self g c =
-    subst
-    (λ f. IsTied g.K.Naming.base (record { front = f; sent = c.self.inside.outgoing }))
-    (sym c.fail.ensures)
-    (failed_is_tied c.ahead_stays_ahead.ensures.failed _ _ _ _ c.self.invariant
-    (subst IsFront c.fail.ensures c.invariant_holds.ensures))
+invariant_of-self g c = (
+  subst
+      (λ f. IsTied g.K.Naming.base (record { front = f; sent = c.self.inside.outgoing.sent }))
+      (sym c.fail.ensures)
+      (failed_is_tied c.ahead_stays_ahead.ensures.failed _ _ _ _ c.self.invariant.0
+      (subst IsFront c.fail.ensures c.invariant_holds.ensures)),
+  c.self.invariant.1,
+)

@@ -11,7 +11,8 @@ pub loop-pass-preserved : goal.loop-pass-preserved
 loop-pass-preserved g c =
     one_taken _ _ _ _ _ _ _ _ _ _ _ _ c.loop-pass.invariant c.take.ensures.handed
     c.take.ensures.missing c.take.ensures.of_passes c.take.ensures.poster c.take.ensures.seen
-    c.take.ensures.marked c.take.ensures.settled c.take.ensures.counted c.take.ensures.changes
+    c.take.ensures.marked c.take.ensures.settled c.take.ensures.apart c.take.ensures.counted
+    c.take.ensures.changes
 
 pub returns : goal.returns
 returns g c =
