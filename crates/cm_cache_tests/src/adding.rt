@@ -1,7 +1,7 @@
 //! Four threads, each of which adds loaders of its own.
 
-use crate::running::formatted;
-use cm_library::{Cache, Counts, Finished, Naming, Pass, Work, with_threads};
+use crate::running::{formatted, ready};
+use cm_library::{Cache, Counts, Finished, Naming, Pass, Work};
 use std::alloc::Global;
 use std::sync::Wait;
 use std::test::*;
@@ -57,7 +57,7 @@ fn four_threads_add_fifty_loaders_each(rt: HostRuntime) -> Result<(), Fail> {
         output,
         counts,
         disk: _,
-    } = with_threads(&rt, alloc, formatted(alloc)?, 1, adders)?;
+    } = ready(&rt, alloc, formatted(alloc)?)?.run_in_threads(&rt, alloc, adders)?;
     let mut numbers = Vec::new(alloc);
     for own in output? {
         numbers.extend_from_slice(&own)?;

@@ -1,11 +1,9 @@
 //! One thread's calls of a running cache, as tables of calls and results.
 
 use crate::fused::calls_to_open;
-use crate::running::formatted;
+use crate::running::{formatted, ready};
 use cm_disk::FuseDisk;
-use cm_library::{
-    Cache, Counts, Disk, Finished, Geometry, Names, Naming, Pass, Refusal, Work, with_cache,
-};
+use cm_library::{Cache, Counts, Disk, Finished, Geometry, Names, Naming, Pass, Refusal, Work};
 use cm_samples::{class, new_disk};
 use std::alloc::Global;
 use std::sync::Wait;
@@ -117,7 +115,7 @@ where
         output,
         counts,
         disk: _,
-    } = with_cache(rt, alloc, disk, 1, Calls(calls))?;
+    } = ready(rt, alloc, disk)?.run(rt, alloc, Calls(calls))?;
     Ok((counts, output?))
 }
 

@@ -1,11 +1,11 @@
 //! Threads that define classes while the device fails.
 
-use crate::running::{formatted, opened};
+use crate::running::{formatted, opened, ready};
 use cm_commands::Command;
 use cm_commit::Committer;
 use cm_disk::{FuseDisk, SimDisk};
 use cm_front::Front;
-use cm_library::{Cache, Counts, Finished, Naming, Pass, Prepared, Refusal, Work, with_threads};
+use cm_library::{Cache, Counts, Finished, Naming, Pass, Prepared, Refusal, Work};
 use cm_recover::{NotOpened, open};
 use cm_samples::class;
 use std::alloc::Global;
@@ -126,7 +126,7 @@ fn three_threads_meet_a_device_that_fails(rt: HostRuntime) -> Result<(), Fail> {
         output,
         counts,
         disk,
-    } = with_threads(&rt, alloc, fuse, 1, definers)?;
+    } = ready(&rt, alloc, fuse)?.run_in_threads(&rt, alloc, definers)?;
     let (mut unsure, mut broken) = (0u64, 0u64);
     for failed in output? {
         unsure = unsure.saturating_add(failed.unsure);

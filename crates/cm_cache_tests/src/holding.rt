@@ -2,7 +2,8 @@
 
 use crate::fused::with_loader;
 use crate::held_disk::{Gate, HeldDisk, Hold};
-use cm_library::{Cache, Counts, Finished, Naming, Pass, Prepared, Work, with_threads};
+use crate::running::ready;
+use cm_library::{Cache, Counts, Finished, Naming, Pass, Prepared, Work};
 use cm_samples::class;
 use std::alloc::Global;
 use std::sync::Wait;
@@ -105,7 +106,7 @@ fn a_held_sync_holds_up_no_other(rt: HostRuntime) -> Result<(), Fail> {
         output,
         counts,
         disk,
-    } = with_threads(&rt, alloc, held, 1, works)?;
+    } = ready(&rt, alloc, held)?.run_in_threads(&rt, alloc, works)?;
     let mut went_well = true;
     for well in output? {
         went_well = went_well && well;

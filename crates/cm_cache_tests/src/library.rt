@@ -1,9 +1,9 @@
 //! Caches that aren't opened, and caches in files.
 
-use crate::running::formatted;
+use crate::running::{formatted, ready};
 use cm_library::{
-    Cache, Counts, CreateError, FileFault, Finished, Geometry, Naming, NotRun, OpenError,
-    OpenFault, Pass, SimDisk, Work, create_file, format, open_file, with_cache,
+    Cache, Counts, CreateError, FileFault, Finished, Geometry, Naming, NotOpened, OpenError,
+    OpenFault, Pass, SimDisk, Work, create_file, format, open, open_file,
 };
 use cm_samples::class;
 use std::alloc::Global;
@@ -42,33 +42,14 @@ impl<R: Wait> Work<R> for Class {
 }
 
 #[test]
-fn a_disk_without_a_cache_is_handed_back_with_the_work(rt: HostRuntime) -> Result<(), Fail> {
+fn a_disk_without_a_cache_is_handed_back(rt: HostRuntime) -> Result<(), Fail> {
     let alloc = rt.alloc();
-    match with_cache(&rt, alloc, SimDisk::new(alloc), 1, Class(b'x')) {
-        Ok(
-            Finished {
-                output,
-                counts: _,
-                disk: _,
-            },
-        ) => {
-            let _found = output?;
-            Err("opened".into())
-        }
-        Err(error) => {
-            let text = format!(in alloc; "{error} {error:?}")?;
-            let NotRun {
-                fault,
-                disk,
-                work: Class(loader),
-            } = error;
+    match open(&rt, alloc, SimDisk::new(alloc), 1) {
+        Ok(_) => Err("opened".into()),
+        Err(NotOpened { fault, disk }) => {
             assert_eq!(rt;
-                (fault, disk.is_some(), loader),
-                (OpenFault::File(FileFault::NotACache), true, b'x')
-            );
-            assert_eq!(rt;
-                text.as_str(),
-                "not a cache NotRun { fault: File(NotACache), .. }"
+                (fault, disk.syncs()),
+                (OpenFault::File(FileFault::NotACache), 1)
             );
             Ok(())
         }
@@ -80,7 +61,7 @@ fn a_closed_cache_is_opened_again(rt: HostRuntime) -> Result<(), Fail> {
     let alloc = rt.alloc();
     let mut disk = formatted(alloc)?;
     for was_there in [false, true] {
-        let finished = with_cache(&rt, alloc, disk, 2, Class(b'x'))?;
+        let finished = ready(&rt, alloc, disk)?.run(&rt, alloc, Class(b'x'))?;
         disk = finished.disk;
         let stored = if was_there { 0 } else { 2 };
         assert_eq!(rt; finished.output?, (was_there, 16));
@@ -112,7 +93,7 @@ fn a_file_is_opened_again_with_what_was_stored(rt: HostRuntime) -> Result<(), Fa
             output,
             counts,
             disk: _,
-        } = with_cache(&rt, alloc, disk, 1, Class(b'y'))?;
+        } = ready(&rt, alloc, disk)?.run(&rt, alloc, Class(b'y'))?;
         assert_eq!(rt; output?, (was_there, 16));
         assert_eq!(rt; counts.unsure(), 0);
     }

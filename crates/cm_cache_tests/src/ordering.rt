@@ -1,7 +1,7 @@
 //! Works that return different things.
 
-use crate::running::formatted;
-use cm_library::{Cache, Finished, Naming, Pass, Refusal, Work, with_threads};
+use crate::running::{formatted, ready};
+use cm_library::{Cache, Finished, Naming, Pass, Refusal, Work};
 use std::alloc::Global;
 use std::sync::Wait;
 use std::test::*;
@@ -37,7 +37,7 @@ fn outputs_come_in_the_order_of_the_works(rt: HostRuntime) -> Result<(), Fail> {
         output,
         counts,
         disk: _,
-    } = with_threads(&rt, alloc, formatted(alloc)?, 1, works)?;
+    } = ready(&rt, alloc, formatted(alloc)?)?.run_in_threads(&rt, alloc, works)?;
     assert_eq!(rt;
         (output?.as_slice(), counts.committed),
         (b"dacb".as_slice(), 4)
@@ -59,7 +59,7 @@ fn more_works_than_passes_are_refused(rt: HostRuntime) -> Result<(), Fail> {
         output,
         counts,
         disk: _,
-    } = with_threads(&rt, alloc, formatted(alloc)?, 1, works)?;
+    } = ready(&rt, alloc, formatted(alloc)?)?.run_in_threads(&rt, alloc, works)?;
     assert!(rt; matches!(output, Err(Refusal::NumbersSpent)));
     assert_eq!(rt; (counts.handed, counts.missing), (0, 0));
     Ok(())

@@ -5,8 +5,7 @@
 use anyhow::{Context, Result, bail};
 use cm_jar::Jar;
 use cm_library::{
-    Cache, Finished, Geometry, Naming, Pass, Work, create_file, format, open_file, prepare,
-    with_threads,
+    Cache, Finished, Geometry, Naming, Pass, Work, create_file, format, open, open_file, prepare,
 };
 use std::alloc::Global;
 use std::fs::{File, Files};
@@ -68,11 +67,15 @@ where
     for thread in 0..LOADERS.len() {
         shares.push(Share { jar, thread })?;
     }
+    let opened = match open(rt, alloc, open_file(rt, path)?, 4) {
+        Ok(opened) => opened,
+        Err(not_opened) => bail!("{path}: {}", not_opened.fault),
+    };
     let Finished {
         output,
         counts,
         disk: _,
-    } = with_threads(rt, alloc, open_file(rt, path)?, 4, shares)?;
+    } = opened.run_in_threads(rt, alloc, shares)?;
     println!(rt;
         "{} of {} commands are stored",
         counts.committed, counts.handed

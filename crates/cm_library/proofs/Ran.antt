@@ -1,21 +1,18 @@
 -- What a cache that was opened and closed leaves, from what opening it and closing it say.
--- For `open`, `run`, `run_in_threads`, `with_cache`, `with_threads`.
-use Rattle.std.proofs.Common.{◌≡◌, ℕ, List, Some, None, Ok, Err, refl, ap, sym, subst}
+-- For `open`, `run`, `run_in_threads`.
+use Rattle.std.proofs.Common.{◌≡◌, ℕ, List, Ok, Err, refl, ap, sym, subst}
 use Rattle.std.specs.Prelude.{Result, IfOk}
 use Rattle.cm_disk.specs.Disk.{View}
 use Rattle.cm_front.specs.Front.{FrontState}
 use Rattle.cm_commit.specs.States.{CommitterState}
-use Rattle.cm_verdict.specs.declared.fault.OpenFault.TheVariants as open_fault
-use Rattle.cm_recover.specs.declared.opening.NotOpened.{NotOpened}
 use Rattle.cm_recover.specs.Opened.{Opens, OpensThrough}
 use Rattle.cm_cache.specs.declared.channel.Base.{Base}
 use Rattle.cm_cache.specs.Shared.{PassState}
 use Rattle.cm_cache.specs.Starting.{base_of}
 use Rattle.cm_library.specs.declared.counts.Counts.{Counts}
 use Rattle.cm_library.specs.declared.running.Finished.{Finished}
-use Rattle.cm_library.specs.declared.running.NotRun.{NotRun}
 use Rattle.cm_library.specs.Running.{HasOpened, IsOpened, Closes, RunsWork}
-use Rattle.cm_library.specs.Running.{IsNotOpened, IsNotBegun, base_in}
+use Rattle.cm_library.specs.Running.{base_in}
 
 module _ {D : Type 0} (view : View D) where
   module _ (begun : D) (front : FrontState) (committer : CommitterState D)
@@ -38,20 +35,6 @@ module _ {D : Type 0} (view : View D) where
       base_is = ap base_of o.committer_is;
       failures_are = through.no_cause (λ none. none);
     }
-
-  -- it wasn't started
-  pub not_started : {W : Type 0} (begun : D) → HasOpened view begun → (e : NotRun D W)
-      → e.fault ≡ open_fault.NoMemory → e.disk ≡ None → IsNotBegun view begun e.fault e.disk
-  not_started begun opens e fault none =
-      subst (λ d. IsNotBegun view begun e.fault d) (sym none) (fault, opens)
-
-  -- it wasn't opened
-  pub not_opened : {W : Type 0} (begun : D) (n : NotOpened D)
-      → IsNotOpened view begun n.disk n.fault → (e : NotRun D W) → e.fault ≡ n.fault
-      → e.disk ≡ Some n.disk → IsNotBegun view begun e.fault e.disk
-  not_opened begun n is e fault disk =
-      subst (λ d. IsNotBegun view begun e.fault d) (sym disk)
-      (subst (λ f. IsNotOpened view begun n.disk f) (sym fault) is)
 
   module _ (inside committer : CommitterState D) (same : inside ≡ committer) (drawn : ℕ) where
     of_opened : (Keeps : List PassState → Type 0) (counts : Counts) (disk begun : D)

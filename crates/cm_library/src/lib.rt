@@ -1,5 +1,5 @@
-//! The cache as a library: what a program needs of it in one crate, and a call that opens a cache,
-//! has threads use it, and closes it.
+//! The cache as a library: what a program needs of it in one crate, a call that opens a cache, and
+//! one that has threads use it, and closes it.
 #![tactic(auto)]
 
 mod counts;
@@ -18,5 +18,5 @@ pub use cm_region_file::{open as open_file, open_in_threads as open_file_in_thre
 pub use cm_verdict::{Damage, FileFault, OpenFault};
 pub use counts::Counts;
 pub use opening::{Opened, open};
-pub use running::{Finished, NotRun, NotStarted, with_cache, with_threads};
+pub use running::{Finished, NotStarted};
 pub use work::Work;

@@ -1,22 +1,19 @@
 //! A cache that is used and closed.
 
-ghost use Rattle.std.specs.Prelude.{◌≡◌, ◌<◌, ◌≤◌, Some, None, IfOk, IfErr, vec_len};
+ghost use Rattle.std.specs.Prelude.{◌≡◌, ◌≤◌, IfOk, IfErr, vec_len};
 ghost use Rattle.std.specs.List.{All};
-ghost use Rattle.cm_verdict.specs.declared.fault.OpenFault.TheVariants as open_fault;
 ghost use Rattle.cm_cache.specs.Shared.{most_passes};
 ghost use Rattle.cm_cache.specs.Starting.{Belongs, MayStart};
-ghost use Rattle.cm_library.specs.Running.{RunsWork, Closes, HasClosed, IsNotBegun};
+ghost use Rattle.cm_library.specs.Running.{RunsWork, Closes, HasClosed};
 ghost use Rattle.cm_library.specs.Running.{KeepsAlone, KeepsWorks, passes_for};
 
 use crate::counts::Counts;
-use crate::opening::{Opened, open};
+use crate::opening::Opened;
 use crate::work::{Work, work_alone, work_in_threads};
 use cm_cache::{Cache, Closed, Flusher, MOST_PASSES, Naming, NewCache, NewStorage, Pass};
 use cm_commands::Refusal;
 use cm_disk::Disk;
 use cm_front::Front;
-use cm_recover::NotOpened;
-use cm_verdict::OpenFault;
 use std::alloc::Global;
 use std::fmt::{self, Debug, Formatter};
 use std::marker::Brand;
@@ -45,99 +42,9 @@ pub struct NotStarted<W> {
     pub work: W,
 }
 
-/// Why no work was begun.
-#[derive(Drop, Error)]
-#[error("{fault}")]
-#[error_bound(D: Drop, W: Drop)]
-pub struct NotRun<D, W> {
-    /// Why the cache wasn't opened; `NoMemory` if it wasn't started.
-    pub fault: OpenFault,
-    /// The disk, if the cache wasn't opened. `None` if it wasn't started ([`NotStarted`]): the disk
-    /// was dropped, and its cache can be opened again.
-    pub disk: Option<D>,
-    /// The work, as it was.
-    pub work: W,
-}
-
-impl<D, W> Debug for NotRun<D, W> {
-    fn fmt<F: fmt::Write>(&self, f: &mut Formatter<F>) -> fmt::Result {
-        f.debug_struct("NotRun")
-            .field("fault", &self.fault)
-            .finish_non_exhaustive()
-    }
-}
-
 impl<W> Debug for NotStarted<W> {
     fn fmt<F: fmt::Write>(&self, f: &mut Formatter<F>) -> fmt::Result {
         f.debug_struct("NotStarted").finish_non_exhaustive()
-    }
-}
-
-/// Opens the cache on a disk, does the work with it, and closes it: [`open`] and [`Opened::run`] in
-/// one call. This many threads check the records on the disk while it is opened.
-///
-/// # Errors
-/// [`NotRun`] if the cache isn't opened, with the fault and the disk as of
-/// [`open`](cm_recover::open), or isn't started. The work is handed back, and no command was
-/// accepted.
-pub fn with_cache<R, D, W>(
-    rt: &R,
-    alloc: Global,
-    disk: D,
-    threads: usize,
-    work: W,
-) -> Result<Finished<W::Output, D>, NotRun<D, W>>
-where
-    R: Threads + Wait + Copy + Send + Sync + 'static,
-    D: Disk + Drop + Send + 'static,
-    W: Work<R> + Drop,
-    requires threads { 0 < threads }
-    requires may_run { W.may_run work }
-    ensures ran { IfOk result (λ f. RunsWork D.view (KeepsAlone (W.keeps work) f.output) 1
-        disk f.counts f.disk) }
-    ensures fault { IfErr result (λ e. IsNotBegun D.view disk e.fault e.disk) }
-    ensures work { IfErr result (λ e. e.work ≡ work) }
-{
-    match open(rt, alloc, disk, threads) {
-        Ok(opened) => match opened.run(rt, alloc, work) {
-            Ok(finished) => Ok(finished),
-            Err(NotStarted { work }) => Err(not_run(work)),
-        },
-        Err(not_opened) => Err(not_begun(not_opened, work)),
-    }
-}
-
-/// Opens the cache on a disk, does each work with it in a thread of its own, and closes it:
-/// [`open`] and [`Opened::run_in_threads`] in one call.
-///
-/// # Errors
-/// As of [`with_cache`].
-pub fn with_threads<R, D, W>(
-    rt: &R,
-    alloc: Global,
-    disk: D,
-    threads: usize,
-    works: Vec<W>,
-) -> Result<Finished<Result<Vec<W::Output>, Refusal>, D>, NotRun<D, Vec<W>>>
-where
-    R: Threads + Wait + Copy + Send + Sync + 'static,
-    D: Disk + Drop + Send + 'static,
-    W: Work<R> + Drop + Send,
-    W::Output: Drop + Send,
-    requires threads { 0 < threads }
-    requires may_run { All W.may_run works.items }
-    ensures ran { IfOk result (λ f. RunsWork D.view
-        (KeepsWorks W.keeps works f.output) (passes_for (vec_len works))
-        disk f.counts f.disk) }
-    ensures fault { IfErr result (λ e. IsNotBegun D.view disk e.fault e.disk) }
-    ensures works { IfErr result (λ e. e.work ≡ works) }
-{
-    match open(rt, alloc, disk, threads) {
-        Ok(opened) => match opened.run_in_threads(rt, alloc, works) {
-            Ok(finished) => Ok(finished),
-            Err(NotStarted { work }) => Err(not_run(work)),
-        },
-        Err(not_opened) => Err(not_begun(not_opened, works)),
     }
 }
 
@@ -209,33 +116,6 @@ impl<D: Disk + Drop + Send + 'static> Opened<D> {
             Ok(new) => run_each::<Brand, R, D, W>(rt, alloc, new, front, storage, works),
             Err(_) => Err(NotStarted { work: works }),
         }
-    }
-}
-
-// What is returned if a cache can't be opened.
-fn not_begun<D: Drop, W>(not_opened: NotOpened<D>, work: W) -> NotRun<D, W>
-    ensures fault { result.fault ≡ not_opened.fault }
-    ensures disk { result.disk ≡ Some not_opened.disk }
-    ensures work { result.work ≡ work }
-{
-    let NotOpened { fault, disk } = not_opened;
-    NotRun {
-        fault,
-        disk: Some(disk),
-        work,
-    }
-}
-
-// What is returned if a cache that was opened can't be started.
-fn not_run<D, W>(work: W) -> NotRun<D, W>
-    ensures fault { result.fault ≡ open_fault.NoMemory }
-    ensures disk { result.disk ≡ None }
-    ensures work { result.work ≡ work }
-{
-    NotRun {
-        fault: OpenFault::NoMemory,
-        disk: None,
-        work,
     }
 }
 
