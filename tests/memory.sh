@@ -43,7 +43,7 @@ sweep_threads() {
     WORK=$work tests/refused_memory.py "$files" "$1" threads FILE --threads 1
     check_last "a cache for threads with a refused allocation"
 }
-beside sweep_threads 405
+beside sweep_threads 418
 end_sweeps
 
 bench=$(find_program cm_bench)

@@ -2,12 +2,13 @@
 # `apply` with several workers writes what it writes with one, on the output and in the file, also
 # if a device call or the input fails or there are many lines at once, and replies to each line
 # before the next one arrives; a run with workers that is killed keeps what it acknowledged; and
-# threads that define, find and unload in one file at once get the replies that one thread would
-# get, and leave the file in accordance with them, also if they are killed, or the machine stops and
-# loses what wasn't synced.
-# SCRIPTS=N runs N random scripts instead of 1,000, KILLS=N kills N runs instead of 50, SOAK=N has
-# the threads work for N seconds instead of one, MOMENTS=N stops the machine at N moments instead of
-# 50, SEED=N uses other scripts and moments. Needs a C compiler and Python 3.
+# threads that run the lines of a script, or define, find, move and unload in one file at once, get
+# the replies that one thread would get, and leave the file in accordance with them, also if a
+# device call fails, they are killed, or the machine stops and loses what wasn't synced.
+# SCRIPTS=N runs N random scripts instead of 1,000 (and a fifth of them by threads), KILLS=N kills N
+# runs instead of 50, SOAK=N has the threads work for N seconds instead of one, MOMENTS=N stops the
+# machine at N moments instead of 50, SEED=N uses other scripts and moments. Needs a C compiler and
+# Python 3.
 set -u
 cd "$(dirname "$0")/.." || exit 1
 . tests/lib.sh
@@ -23,6 +24,8 @@ WORK=$quick counted "scripts whose input fails, and long ones" \
     python3 tests/streams.py "$(executable)"
 WORK=$work counted "runs with workers that are killed" \
     python3 tests/kill.py "$(executable)" "${KILLS:-50}" "$seed" --workers 4
+WORK=$quick counted "scripts that several threads run" \
+    python3 tests/script_threads.py "$bench" "$(executable)" "$((${SCRIPTS:-1000} / 5))" "$seed"
 WORK=$work counted "sixteen threads on one file" \
     python3 tests/soak.py "$(executable)" "$bench" 16 "${SOAK:-1}"
 WORK=$quick counted "sixteen threads on one file that are killed" \

@@ -49,6 +49,13 @@ pub struct Soaking {
     pub is_live: bool,
 }
 
+/// How threads run a script.
+#[derive(Debug, Drop)]
+pub struct Scripting {
+    pub path: String,
+    pub threads: u32,
+}
+
 /// How threads define classes in a new file.
 #[derive(Debug, Drop)]
 pub struct Threading {
@@ -69,6 +76,8 @@ pub enum Request {
     File(Job),
     /// To have threads change the cache in a file for a while.
     Soak(Soaking),
+    /// To have threads run the script on standard input on the cache in a file.
+    Script(Scripting),
     /// To have threads define classes in a new file.
     Threads(Threading),
     /// Nothing more: the help or a usage text was printed. The status to end with.
@@ -175,6 +184,13 @@ fn soak_command<'a>(alloc: Global) -> Result<Command<'a>, AllocError> {
         .args(args)
 }
 
+fn script_command<'a>(alloc: Global) -> Result<Command<'a>, AllocError> {
+    Command::new(alloc, "script")
+        .about("Has threads run the lines of the script on standard input, each some of them")
+        .arg(file(alloc, "The file to open"))?
+        .arg(threads(alloc, "1"))
+}
+
 fn threads_command<'a>(alloc: Global) -> Result<Command<'a>, AllocError> {
     let args = vec![in alloc;
         file(alloc, "The file to make"),
@@ -202,6 +218,7 @@ fn with_tasks<'a>(alloc: Global, command: Command<'a>) -> Result<Command<'a>, Al
 fn with_threads<'a>(alloc: Global, command: Command<'a>) -> Result<Command<'a>, AllocError> {
     command
         .subcommand(soak_command(alloc)?)?
+        .subcommand(script_command(alloc)?)?
         .subcommand(threads_command(alloc)?)
 }
 
@@ -258,6 +275,13 @@ fn soaking_of(alloc: Global, given: &ArgMatches<'_>) -> Result<Soaking> {
     })
 }
 
+fn scripting_of(alloc: Global, given: &ArgMatches<'_>) -> Result<Scripting> {
+    Ok(Scripting {
+        path: path_of(alloc, given)?,
+        threads: given.get_one("threads").ok_or(UnknownWords)?,
+    })
+}
+
 fn threading_of(alloc: Global, given: &ArgMatches<'_>) -> Result<Threading> {
     Ok(Threading {
         path: path_of(alloc, given)?,
@@ -274,6 +298,7 @@ fn request_of(alloc: Global, words: &ArgMatches<'_>) -> Result<Request> {
     let (name, given) = words.subcommand().ok_or(UnknownWords)?;
     match name {
         "soak" => Ok(Request::Soak(soaking_of(alloc, given)?)),
+        "script" => Ok(Request::Script(scripting_of(alloc, given)?)),
         "threads" => Ok(Request::Threads(threading_of(alloc, given)?)),
         _ => Ok(Request::File(job_of(alloc, name, given)?)),
     }

@@ -1,10 +1,10 @@
 //! `cm_bench_files`: what a cache in a file costs, and what threads do in one.
 //!
 //! `put FILE` makes a file and defines the classes on standard input in it; `read FILE` opens one
-//! and looks up each of its classes. `threads FILE` has several threads define them, and `soak
-//! FILE` has threads change the cache in a file for a while and prints the results of their calls.
-//! Each but the last prints only counts, unless times are requested. What runs in memory is
-//! `cm_bench`.
+//! and looks up each of its classes. `threads FILE` has several threads define them. `soak FILE`
+//! has threads change the cache in a file for a while, and `script FILE` has them run a script, and
+//! both print the results of their calls. The others print only counts, unless times are requested.
+//! What runs in memory is `cm_bench`.
 #![tactic(auto)]
 
 mod command;
@@ -51,6 +51,7 @@ where
         Request::Printed(status) => return Ok(*status),
         Request::File(job) => file::bench(rt, job)?,
         Request::Soak(soaking) => threads::soak(rt, soaking)?,
+        Request::Script(scripting) => threads::script(rt, scripting)?,
         Request::Threads(threading) => threads::bench(rt, threading)?,
     }
     Ok(0)

@@ -3,12 +3,12 @@
 use crate::threads::report::print_live;
 use crate::threads::scene::{Sample, Scene};
 use cm_commands::{Refusal, prepare};
-use cm_library::{Cache, Naming, Pass};
+use cm_library::{Cache, Names, Naming, Pass, Record};
 use rand_core::Rng;
 use rand_pcg::Pcg32;
-use std::alloc::Global;
+use std::alloc::{AllocError, Global};
 use std::rt::Clock;
-use std::sync::Wait;
+use std::sync::{Arc, Wait};
 use std::time::{Duration, Instant};
 
 /// How many loaders a thread has of its own.
@@ -32,6 +32,9 @@ pub struct Mix {
 pub enum Asked {
     Loader(usize),
     Unload(usize),
+    Tighten(usize),
+    /// Two loaders at once.
+    UnloadAll(usize, usize),
     Define(usize, usize),
     Find(usize, usize),
 }
@@ -40,6 +43,8 @@ pub enum Asked {
 #[derive(Clone, Copy, Debug)]
 pub enum Answer {
     Number(u64),
+    /// Accepted with this number, but it isn't known whether it is stored.
+    Unsure(u64),
     /// Refused, with the number of the refusal.
     Refused(u8),
     /// A class was found, whose record has this many words.
@@ -62,21 +67,24 @@ fn below(rng: &mut Pcg32, count: usize) -> usize {
 /// What to request next: mostly classes.
 fn next_asked(rng: &mut Pcg32, thread: u32, classes: usize) -> Asked {
     let own = below(rng, LOADERS as usize);
-    let loader = (thread as usize)
-        .wrapping_mul(LOADERS as usize)
-        .wrapping_add(own);
+    let first = (thread as usize).wrapping_mul(LOADERS as usize);
+    let loader = first.wrapping_add(own);
     let class = below(rng, classes);
-    match below(rng, 16) {
+    match below(rng, 32) {
         0 => Asked::Unload(loader),
-        1 | 2 => Asked::Loader(loader),
-        3..=10 => Asked::Define(loader, class),
+        1 => Asked::UnloadAll(first, first.wrapping_add(1)),
+        2 | 3 => Asked::Tighten(loader),
+        4..=7 => Asked::Loader(loader),
+        8..=21 => Asked::Define(loader, class),
         _ => Asked::Find(loader, class),
     }
 }
 
-fn answer_of(answer: Result<u64, Refusal>) -> Answer {
+/// The result of a change.
+pub fn answer_of(answer: Result<u64, Refusal>) -> Answer {
     match answer {
         Ok(number) => Answer::Number(number),
+        Err(Refusal::Unsure(number)) => Answer::Unsure(number),
         Err(refusal) => Answer::Refused(refusal.number()),
     }
 }
@@ -94,13 +102,9 @@ fn define<K: Naming, R: Wait>(
     cache.define(rt, pass, loader, class)
 }
 
-fn find<K: Naming, R: Wait>(
-    rt: &R,
-    cache: &Cache<K>,
-    loader: &[u8],
-    sample: &Sample<'_>,
-) -> Answer {
-    match cache.find(rt, loader, &sample.name) {
+/// The result of a look-up.
+pub fn found(record: Result<Option<Arc<Record, Global>>, AllocError>) -> Answer {
+    match record {
         Ok(Some(record)) => Answer::Words(record.words()),
         Ok(None) => Answer::Nothing,
         Err(_) => Answer::Refused(Refusal::NoMemory.number()),
@@ -123,6 +127,19 @@ fn call<K: Naming, R: Wait>(
             scene.loader(loader).as_bytes(),
         )),
         Asked::Unload(loader) => answer_of(cache.unload(rt, pass, scene.loader(loader).as_bytes())),
+        Asked::Tighten(loader) => answer_of(cache.tighten(
+            rt,
+            pass,
+            scene.loader(loader).as_bytes(),
+        )),
+        Asked::UnloadAll(first, second) => answer_of(cache.unload_all(
+            rt,
+            pass,
+            Names::new(&[
+                scene.loader(first).as_bytes(),
+                scene.loader(second).as_bytes(),
+            ]),
+        )),
         Asked::Define(loader, class) => match scene.samples.get(class) {
             Some(sample) => {
                 answer_of(define(
@@ -137,7 +154,7 @@ fn call<K: Naming, R: Wait>(
             None => Answer::Nothing,
         },
         Asked::Find(loader, class) => match scene.samples.get(class) {
-            Some(sample) => find(rt, cache, scene.loader(loader).as_bytes(), sample),
+            Some(sample) => found(cache.find(rt, scene.loader(loader).as_bytes(), &sample.name)),
             None => Answer::Nothing,
         },
     }

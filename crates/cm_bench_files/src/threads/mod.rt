@@ -5,14 +5,16 @@ mod mixing;
 mod report;
 mod running;
 mod scene;
+mod scripting;
 
-use crate::command::{Soaking, Threading};
+use crate::command::{Scripting, Soaking, Threading};
 use crate::file::{CountedDisk, make_file};
 use crate::threads::defining::Turn;
 use crate::threads::mixing::{LOADERS, Mix};
-use crate::threads::report::{print_counts, print_steps, print_sums};
+use crate::threads::report::{print_counts, print_replies, print_steps, print_sums};
 use crate::threads::running::{Duty, Ran, run_duties};
 use crate::threads::scene::Scene;
+use crate::threads::scripting::{Part, lines_of};
 use anyhow::Result;
 use cm_file_disk::FileDisk;
 use cm_stream::read_stream;
@@ -65,6 +67,31 @@ where
         return print_counts(rt, ran.counts);
     }
     print_steps(rt, &scene, &ran.outcomes, ran.counts)
+}
+
+/// The parts of a script, one for each of `threads` threads.
+fn parts(alloc: Global, threads: u32) -> Result<Vec<Duty>, AllocError> {
+    let mut duties = Vec::new(alloc);
+    for thread in 0..threads {
+        duties.push(Duty::Script(Part { thread, threads }))?;
+    }
+    Ok(duties)
+}
+
+/// Has threads do what the lines of a script request of the cache in a file, each its part of them,
+/// and prints the result of each line.
+pub fn script<R>(rt: &R, scripting: &Scripting) -> Result<()>
+where
+    R: Clock + Files<File = File> + Input + Print + AllocGlobal,
+    R: Threads + Wait + Copy + Send + Sync + 'static,
+{
+    let alloc = rt.alloc();
+    let text = read_stream(alloc, rt.reader())?;
+    let scene = Scene::of_lines(alloc, lines_of(alloc, &text)?);
+    let disk = cm_region_file::open(rt, &scripting.path)?;
+    let duties = parts(alloc, scripting.threads)?;
+    let ran = run_duties(rt, alloc, disk, &scene, &duties)?;
+    print_replies(rt, &ran.outcomes, ran.counts)
 }
 
 /// The duties of the threads that define, and of those that look up.

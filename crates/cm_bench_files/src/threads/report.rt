@@ -21,24 +21,25 @@ pub fn print_counts(rt: &impl Print, counts: Counts) -> Result<()> {
     Ok(())
 }
 
-/// What a call requests: its verb, its loader, and the number of its class, from 0.
+/// What a call requests: its verb, its loaders, and the number of its class, from 0.
 fn asked_text(alloc: Global, scene: &Scene<'_>, asked: Asked) -> Result<String, AllocError> {
-    let (verb, loader, class) = match asked {
-        Asked::Loader(loader) => ("loader", loader, None),
-        Asked::Unload(loader) => ("unload", loader, None),
-        Asked::Define(loader, class) => ("define", loader, Some(class)),
-        Asked::Find(loader, class) => ("find", loader, Some(class)),
-    };
-    let loader = scene.loader(loader);
-    match class {
-        Some(class) => format!(in alloc; "{verb} {loader} {class}"),
-        None => format!(in alloc; "{verb} {loader}"),
+    let name = |loader| scene.loader(loader);
+    match asked {
+        Asked::Loader(loader) => format!(in alloc; "loader {}", name(loader)),
+        Asked::Unload(loader) => format!(in alloc; "unload {}", name(loader)),
+        Asked::Tighten(loader) => format!(in alloc; "tighten {}", name(loader)),
+        Asked::UnloadAll(first, second) => {
+            format!(in alloc; "unloadall {} {}", name(first), name(second))
+        }
+        Asked::Define(loader, class) => format!(in alloc; "define {} {class}", name(loader)),
+        Asked::Find(loader, class) => format!(in alloc; "find {} {class}", name(loader)),
     }
 }
 
 fn answer_text(alloc: Global, answer: Answer) -> Result<String, AllocError> {
     match answer {
         Answer::Number(number) => format!(in alloc; "ok {number}"),
+        Answer::Unsure(number) => format!(in alloc; "unsure {number}"),
         Answer::Refused(number) => format!(in alloc; "refused {number}"),
         Answer::Words(words) => format!(in alloc; "words {words}"),
         Answer::Nothing => String::from_str(alloc, "none"),
@@ -92,6 +93,24 @@ pub fn print_steps(
     print_counts(rt, counts)
 }
 
+/// Prints the result of each line, with its number, from 1, thread by thread, and what was counted.
+pub fn print_replies(
+    rt: &(impl Print + AllocGlobal),
+    outcomes: &[Outcome],
+    counts: Counts,
+) -> Result<()> {
+    for outcome in outcomes {
+        if let Outcome::Replies(replies) = outcome {
+            println!(rt; "thread")?;
+            for reply in replies {
+                let answer = answer_text(rt.alloc(), reply.answer)?;
+                println!(rt; "{}: {answer}", reply.line.saturating_add(1))?;
+            }
+        }
+    }
+    print_counts(rt, counts)
+}
+
 /// What threads did together.
 #[derive(Clone, Copy)]
 struct Sums {
@@ -106,7 +125,7 @@ fn add_up(outcomes: &[Outcome]) -> Sums {
         match outcome {
             Outcome::Stored(more) => stored = stored.wrapping_add(*more),
             Outcome::Looks(more) => looks.join(*more),
-            Outcome::Steps(_) => {}
+            Outcome::Steps(_) | Outcome::Replies(_) => {}
         }
     }
     Sums { stored, looks }

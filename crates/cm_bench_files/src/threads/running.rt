@@ -3,9 +3,10 @@
 use crate::threads::defining::{Looks, Turn, define_all, look_up_all};
 use crate::threads::mixing::{Mix, Step, mix_calls};
 use crate::threads::scene::Scene;
-use anyhow::Result;
+use crate::threads::scripting::{Part, Reply, run_part};
+use anyhow::{Result, bail};
 use cm_disk::Disk;
-use cm_library::{Cache, Counts, Finished, Naming, Pass, Work, with_threads};
+use cm_library::{Cache, Counts, Finished, Naming, Opened, Pass, Work, open};
 use std::alloc::Global;
 use std::rt::Clock;
 use std::sync::Wait;
@@ -16,6 +17,7 @@ use std::time::Instant;
 #[derive(Clone, Copy, Debug)]
 pub enum Duty {
     Mix(Mix),
+    Script(Part),
     Define(Turn),
     LookUp(Turn),
 }
@@ -24,6 +26,7 @@ pub enum Duty {
 #[derive(Drop)]
 pub enum Outcome {
     Steps(Vec<Step>),
+    Replies(Vec<Reply>),
     /// How many commands were stored.
     Stored(u64),
     Looks(Looks),
@@ -75,6 +78,9 @@ impl<R: Clock + Print + Wait> Work<R> for Worker<'_> {
         let began = since.elapsed(rt)?.as_nanos();
         let outcome = match duty {
             Duty::Mix(mix) => Outcome::Steps(mix_calls(rt, alloc, cache, pass, scene, mix)),
+            Duty::Script(part) => {
+                Outcome::Replies(run_part(rt, alloc, cache, pass, &scene.lines, part)?)
+            }
             Duty::Define(turn) => Outcome::Stored(define_all(rt, alloc, cache, pass, scene, turn)),
             Duty::LookUp(turn) => Outcome::Looks(look_up_all(rt, cache, scene, turn)),
         };
@@ -105,6 +111,18 @@ fn workers<'a, R: Clock>(
     Ok(workers)
 }
 
+// The cache on a disk, ready to run.
+fn ready<R, D>(rt: &R, alloc: Global, disk: D) -> Result<Opened<D>>
+where
+    R: Threads + Sync,
+    D: Disk + Drop,
+{
+    match open(rt, alloc, disk, 1) {
+        Ok(opened) => Ok(opened),
+        Err(not_opened) => bail!("{}", not_opened.fault),
+    }
+}
+
 /// Opens the cache on a disk, and has threads do these duties on it.
 pub fn run_duties<R, D>(
     rt: &R,
@@ -122,7 +140,7 @@ where
         output,
         counts,
         disk,
-    } = with_threads(rt, alloc, disk, 1, workers)?;
+    } = ready(rt, alloc, disk)?.run_in_threads(rt, alloc, workers)?;
     let mut outcomes = Vec::new(alloc);
     let (mut first, mut last) = (u128::MAX, 0);
     for done in output? {

@@ -1,4 +1,4 @@
-//! What threads work on: classes, and loaders to define them in.
+//! What threads work on: classes, and loaders to define them in, or the lines of a script.
 
 use anyhow::Result;
 use cm_commands::{PrepareFault, Prepared, prepare};
@@ -20,6 +20,8 @@ pub struct Scene<'a> {
     pub samples: Vec<Sample<'a>>,
     /// The names of loaders.
     pub loaders: Vec<String>,
+    /// The lines of a script.
+    pub lines: Vec<&'a [u8]>,
     /// How many threads still define classes.
     defining: AtomicU64,
 }
@@ -62,8 +64,19 @@ impl<'a> Scene<'a> {
         Ok(Scene {
             samples: samples(alloc, &classes)?,
             loaders: loader_names(alloc, loaders)?,
+            lines: Vec::new(alloc),
             defining: AtomicU64::new(u64::from(definers)),
         })
+    }
+
+    /// The lines of a script.
+    pub fn of_lines(alloc: Global, lines: Vec<&'a [u8]>) -> Scene<'a> {
+        Scene {
+            samples: Vec::new(alloc),
+            loaders: Vec::new(alloc),
+            lines,
+            defining: AtomicU64::new(0),
+        }
     }
 
     /// Whether any thread still defines classes.
