@@ -1,0 +1,7 @@
+mod PoolConstants
+mod RunBytes
+mod TextPlaces
+mod Heads
+mod PartPlaces
+mod TextBytes
+mod Listed

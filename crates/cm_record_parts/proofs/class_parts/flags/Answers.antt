@@ -1,0 +1,8 @@
+use Rattle.std.proofs.Common.{◌∙◌, ap}
+use Rattle.cm_record_layout.specs.Packing.{first_of}
+use Rattle.cm_record_layout.proofs.{flags_read}
+use Rattle.cm_record_parts.proofs.class_parts.flags.Goals as goal
+
+pub returns : goal.returns
+returns c = λ d is. c.first.ensures ∙ (ap first_of c.word_at.ensures
+    ∙ flags_read d c.args.words.now is)
