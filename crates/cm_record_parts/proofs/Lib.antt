@@ -5,3 +5,5 @@ mod Heads
 mod PartPlaces
 mod TextBytes
 mod Listed
+mod NextConstants
+mod NestedPlaces

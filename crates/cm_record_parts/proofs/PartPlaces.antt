@@ -79,7 +79,8 @@ member_words at (x ∷ these) tail k zero m ek e =
     let same : x ≡ m = cc in
     let first : k ≡ 0 = omega arith in (
       ap (λ n. get_or (members at (x ∷ these) ++ tail) n 0) first ∙ ap
-          (λ (y : ClassMember). four_numbers y.flags y.name y.descriptor (length y.attributes)) same,
+          (λ (y : ClassMember). four_numbers y.flags y.name y.descriptor
+          (length y.attributes)) same,
       ap (λ n. get_or (members at (x ∷ these) ++ tail) (suc n) 0) first ∙ omega arith,
     )
 member_words at (x ∷ these) tail k (suc j) m ek e =
@@ -281,7 +282,8 @@ module _ (c : ClassFile) (words : List ℕ) (is : IsRecordOf c words) where
       ap (λ n. get_or words n 0) here ∙ (ap (λ w. get_or w (interfaces_at c + i) 0) is.laid
       ∙ (sym (get_or-drop (interfaces_at c) (lay c) i 0) ∙ (ap
       (λ w. get_or w i 0) (interfaces_on c is.spelled)
-      ∙ (get_or_append_left c.interfaces (after_interfaces c is.spelled) 0 i (slice_get_within c.interfaces i x e)
+      ∙ (get_or_append_left c.interfaces (after_interfaces c is.spelled) 0 i
+      (slice_get_within c.interfaces i x e)
       ∙ get_or_from_slice_get c.interfaces i x 0 e)))) in
       let fits : x < 2 ^ 16 = all_at IsU2 c.interfaces i x is.spelled.interfaces.1 e in
       omega (arith, word, fits)
@@ -320,7 +322,8 @@ module _ (c : ClassFile) (words : List ℕ) (is : IsRecordOf c words) where
       (λ w. get_or w (2 * j) 0) on.1 ∙ found.0))) in
       let run = attribute_runs_at c + length (attribute_runs (take j (all_attributes c))) in
       let at : get_or words (place + 1) 0 ≡ run =
-      ap (λ n. get_or words n 0) next ∙ (ap (λ w. get_or w (attributes_at c + suc (2 * j)) 0) is.laid
+      ap (λ n. get_or words n 0) next
+      ∙ (ap (λ w. get_or w (attributes_at c + suc (2 * j)) 0) is.laid
       ∙ (sym (get_or-drop (attributes_at c) (lay c) (suc (2 * j)) 0) ∙ (ap
       (λ w. get_or w (suc (2 * j)) 0) on.1 ∙ found.1))) in
       let fits = all_at AttributeFits (all_attributes c) j a (all_fit c is.spelled) e in

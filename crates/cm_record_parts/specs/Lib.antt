@@ -1,2 +1,4 @@
 pub mod Places
 pub mod Parts
+pub mod Pool
+pub mod Nested

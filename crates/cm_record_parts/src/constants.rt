@@ -8,6 +8,7 @@ ghost use Rattle.cm_record.specs.Constants.{kept_of_kind as kept_of_kind_of};
 ghost use Rattle.cm_record.specs.Constants.{word_kept as word_kept_of};
 ghost use Rattle.cm_record.specs.Constants.{constant_at_index as constant_at_index_of};
 ghost use Rattle.cm_record.specs.Constants.{constant_kept};
+ghost use Rattle.cm_record_parts.specs.Pool.{step_of, IsStart, FindsNext};
 
 use crate::words::word_at;
 use cm_class::{Constant, Kind};
@@ -107,4 +108,41 @@ pub fn constant(words: &[u64], index: u16) -> Option<Constant<Utf8Place>>
     ensures { (c : ClassFile) → IsRecordOf c words.now → result ≡ constant_kept c index }
 {
     constant_at_index(words, index)
+}
+
+/// A constant of the pool, with its index.
+#[derive(Clone, Copy, Debug, PartialEq, Eq)]
+pub struct PoolConstant {
+    pub index: u16,
+    pub constant: Constant<Utf8Place>,
+}
+
+// How far after the constant at an index the next one is; 1 at index 0.
+fn step_after(words: &[u64], index: u16) -> u16
+    ensures { result ≡ step_of words.now index }
+{
+    if index != 0 && is_wide_word(word_at(words, DIRECTORY_AT + index as usize)) {
+        2
+    } else {
+        1
+    }
+}
+
+/// The first constant of the pool after the one at an index, or the first one of all after 0;
+/// `None` after the last one. It reads three words, whatever the pool has.
+pub fn next_constant(words: &[u64], after: u16) -> Option<PoolConstant>
+    ensures { (c : ClassFile) → IsRecordOf c words.now → IsStart c after
+        → FindsNext c after result }
+{
+    let Some(index) = after.checked_add(step_after(words, after)) else {
+        return None;
+    };
+    if index >= first(word_at(words, HEAD_COUNTS)) {
+        return None;
+    }
+    let place = DIRECTORY_AT + index as usize;
+    let Some(constant) = word_kept(word_at(words, place), word_at(words, place + 1)) else {
+        return None;
+    };
+    Some(PoolConstant { index, constant })
 }

@@ -6,6 +6,7 @@ mod class_files;
 mod class_parts;
 mod constants;
 mod members;
+mod nested;
 mod places;
 mod texts;
 mod words;
@@ -16,6 +17,7 @@ pub use class_parts::{
     class_name, field_count, flags, interface, interface_count, method_count, pool_count,
     super_name,
 };
-pub use constants::constant;
+pub use constants::{PoolConstant, constant, next_constant};
 pub use members::{Member, field, method};
+pub use nested::{NestedAttributes, nested_attribute, nested_attributes};
 pub use places::Place;

@@ -11,8 +11,8 @@ use crate::places::{Place, text_place};
 use crate::words::word_at;
 use cm_record_layout::bytes_of;
 
-// The byte at a place of the record, counted from its first; 0 past the end.
-fn byte_at(words: &[u64], at: usize) -> u8
+/// The byte at a place of the record, counted from its first; 0 past the end.
+pub(crate) fn byte_at(words: &[u64], at: usize) -> u8
     ensures { result ≡ get_or (word_bytes words.now) at 0 }
 {
     bytes_of(word_at(words, at / 8))[at % 8]
