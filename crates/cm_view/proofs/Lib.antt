@@ -7,3 +7,5 @@ mod Exact
 mod Standing
 mod Cache
 mod Opened
+-- Answers of a view, for crates above.
+pub use Cache.{not_both, none_in, none_told, answer_of}

@@ -15,4 +15,5 @@ pub use cm_view_index::{ViewRow, mark_of, name_of};
 pub use fault::{FindFault, ViewFault};
 pub use finding::find;
 pub use laws::{rows_show_names, view_is_exact, views_show_caches};
+pub use taking::take_record;
 pub use view::View;

@@ -1,5 +1,5 @@
 -- The order of rows, and that rows of equal keys are alike.
--- For `sort_rows`, `find_row`, `first_twin`.
+-- For `sort_rows`, `find_at`, `first_twin`.
 use Rattle.std.proofs.Common.{◌≡◌, ℕ, List, refl, sym, ◌∙◌, ap}
 use Rattle.std.specs.Ordering.{is_eq, nat_cmp, ordering_then}
 use Rattle.std.specs.declared.cmp.Ordering.{Ordering}

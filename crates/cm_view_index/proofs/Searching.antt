@@ -1,5 +1,5 @@
 -- A search in a list that is sorted by keys.
--- For `find_row`, `first_twin`, and for crates above.
+-- For `find_at`, `first_twin`, and for crates above.
 use Rattle.std.proofs.Common.{◌≡◌, ◌<◌, ◌≤◌, ℕ, Bool, true, false, List, length, get_or, sym}
 use Rattle.std.proofs.Common.{◌∙◌, ap, arith, inl, inr}
 use Rattle.std.specs.Ordering.{is_lt, ordering_reverse}

@@ -1,5 +1,5 @@
 -- Rows in order: two that show one name have neighbours that do.
--- For `find_row`, `first_twin`.
+-- For `find_at`, `first_twin`.
 use Rattle.std.proofs.Common.{◌≡◌, ◌<◌, ◌≤◌, ◌+◌, ◌-◌, ℕ, false, List, [], length, get_or, refl}
 use Rattle.std.proofs.Common.{sym}
 use Rattle.std.proofs.Common.{◌∙◌, ap, subst, arith, inl, inr}

@@ -19,6 +19,15 @@ pub record IsIndexOf (bytes : List ℕ) (rows : List ViewRow) : Type 0 where
       → ShowsName bytes (slice_index_or rows k d) name
       → (slice_index_or rows k d).mark ≡ mark_of (slice_index_or rows k d).loader name
 
+-- the row at this place is of this loader and shows this name
+pub record IsRowAt (bytes : List ℕ) (rows : List ViewRow) (loader : ℕ) (name : List ℕ) (at : ℕ)
+    : Type 0 where
+  pub row : ViewRow
+  pub within : at < length rows
+  pub is : slice_index_or rows at row ≡ row
+  pub owner : row.loader ≡ loader
+  pub named : name_of bytes row ≡ name
+
 -- one of the rows is this row, which is of this loader and shows this name
 pub record IsRowFor (bytes : List ℕ) (rows : List ViewRow) (loader : ℕ) (name : List ℕ)
     (row : ViewRow) : Type 0 where

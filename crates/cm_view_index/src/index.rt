@@ -1,9 +1,9 @@
 //! Rows in order, and looking them up.
 ghost use Rattle.std.specs.Prelude.{◌≡◌, ◌↔◌, ◌<◌, length, IfSome, IfNone, IsTrue};
 ghost use Rattle.std.specs.List.Sorted.{IsPermutation};
-ghost use Rattle.cm_view_index.specs.Index.{IsInOrder, IsIndexOf, IsRowFor, HasNoRow, AreAlike};
+ghost use Rattle.cm_view_index.specs.Index.{IsInOrder, IsIndexOf, IsRowAt, IsRowFor, HasNoRow};
 ghost use Rattle.cm_view_index.specs.Rows.{name_of as name_of_row};
-ghost use Rattle.cm_view_index.specs.Index.{HasTwin, NamesDiffer};
+ghost use Rattle.cm_view_index.specs.Index.{AreAlike, HasTwin, NamesDiffer};
 
 use crate::marks::mark_of;
 use crate::order::{cmp_rows, is_before};
@@ -27,8 +27,24 @@ fn is_for(bytes: &[u8], row: &ViewRow, loader: u64, name: &[u8]) -> bool
     row.loader == loader && name_of(bytes, row) == name
 }
 
-/// A row of this loader that shows this name. If the rows are an index of these bytes and there is
-/// none, none shows it. About a logarithm of the rows is looked at, whatever names they show.
+/// Where a row of this loader that shows this name is among the rows. If the rows are an index of
+/// these bytes and there is none, none shows it. About a logarithm of the rows is looked at, whatever
+/// names they show.
+pub fn find_at(bytes: &[u8], rows: &[ViewRow], loader: u64, name: &[u8]) -> Option<usize>
+    ensures some { IfSome result (IsRowAt bytes.now rows.now loader name.now) }
+    ensures none { IfNone result
+        (IsIndexOf bytes.now rows.now → HasNoRow bytes.now rows.now loader name.now) }
+{
+    let mark = mark_of(loader, name);
+    let at = rows.partition_point(|row| is_before(bytes, row, mark, loader, name));
+    if at < rows.len() && is_for(bytes, &rows[at], loader, name) {
+        Some(at)
+    } else {
+        None
+    }
+}
+
+/// The row that [`find_at`] finds.
 pub fn find_row<'a>(
     bytes: &[u8],
     rows: &'a [ViewRow],
@@ -39,12 +55,9 @@ pub fn find_row<'a>(
     ensures none { IfNone result
         (IsIndexOf bytes.now rows.now → HasNoRow bytes.now rows.now loader name.now) }
 {
-    let mark = mark_of(loader, name);
-    let at = rows.partition_point(|row| is_before(bytes, row, mark, loader, name));
-    if at < rows.len() && is_for(bytes, &rows[at], loader, name) {
-        Some(&rows[at])
-    } else {
-        None
+    match find_at(bytes, rows, loader, name) {
+        Some(at) => Some(&rows[at]),
+        None => None,
     }
 }
 

@@ -6,6 +6,6 @@ mod marks;
 mod order;
 mod row;
 
-pub use index::{find_row, first_twin, sort_rows};
+pub use index::{find_at, find_row, first_twin, sort_rows};
 pub use marks::{mark_of, marked};
 pub use row::{ViewRow, name_of, row_bytes};

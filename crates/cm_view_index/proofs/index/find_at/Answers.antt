@@ -7,9 +7,9 @@ use Rattle.cm_view_index.specs.Order.{RowKey, key_of}
 use Rattle.cm_view_index.proofs.Searching.{is_early, parted, found_there}
 use Rattle.cm_view_index.proofs.Orders.{keys_total, same_key}
 use Rattle.cm_view_index.proofs.Twins.{keyed_so}
-use Rattle.cm_view_index.proofs.index.find_row.Goals as goal
-use Rattle.cm_view_index.proofs.index.find_row.Goals.{else-at-rows-via-then-at-rows+else-is_for}
-use Rattle.cm_view_index.proofs.index.find_row.Goals.{else-at-rows-via-else-at-rows}
+use Rattle.cm_view_index.proofs.index.find_at.Goals as goal
+use Rattle.cm_view_index.proofs.index.find_at.Goals.{else-at-rows-via-then-at-rows+else-is_for}
+use Rattle.cm_view_index.proofs.index.find_at.Goals.{else-at-rows-via-else-at-rows}
 
 no_row : ViewRow
 no_row = record { loader = 0; at = 0; words = 0; slot = 0; mark = 0 }

@@ -1,0 +1,2 @@
+mod Loaders
+mod Placing

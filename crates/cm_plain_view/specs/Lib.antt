@@ -1,0 +1,4 @@
+pub mod Loaders
+pub mod Views
+pub mod Opening
+pub mod Walks
