@@ -1,2 +1,3 @@
 mod Takings
 mod Logged
+mod Unloaded

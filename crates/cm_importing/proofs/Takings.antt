@@ -1,6 +1,7 @@
 -- Changes that are asked for one after another, and stored together.
 -- For `add_loader`, `define_each`, `define_one`, `is_there`, `import_all`, `import_feed`,
--- `import_group`.
+-- `import_group`, `unload_one`, `unload_each`, `unload_group`, `unload`.
+use Rattle.std.specs.Global.{Vec}
 use Rattle.std.specs.Result.{is_err}
 use Rattle.std.specs.Prelude.{IsTrue}
 use Rattle.std.proofs.Common.{◌≡◌, ℕ, Bool, true, false, List, [], ◌∷◌, ◌++◌, Result, Ok, Err, refl}
@@ -12,7 +13,7 @@ use Rattle.cm_disk.specs.declared.disk.DeviceFault.{DeviceFault}
 use Rattle.cm_pool.specs.Geometry.{Sizes}
 use Rattle.cm_class.specs.declared.class_file.ClassFile.{ClassFile}
 use Rattle.cm_record.specs.Names.{class_name_in}
-use Rattle.cm_state.specs.Step.{Change, AddLoader, Define}
+use Rattle.cm_state.specs.Step.{Change, AddLoader, Define, Unload}
 use Rattle.cm_commands.specs.declared.refusal.Refusal.{Refusal}
 use Rattle.cm_commands.specs.declared.refusal.Refusal.TheVariants as refusal
 use Rattle.cm_commands.specs.Machine.{Base, Machine, machine_from, accepted_to}
@@ -26,6 +27,7 @@ use Rattle.cm_importing.specs.Outcomes.{IsRightOutcome}
 use Rattle.cm_importing.specs.Groups.{Pause, pause, IsReady, Takes, TakesEach, StoresGroup}
 use Rattle.cm_importing.specs.Groups.{LosesGroup, defines}
 use Rattle.cm_importing.specs.Runs.{TellsLoader, RunsLoader}
+use Rattle.cm_importing.specs.Unloading.{unloads}
 use Rattle.cm_importing.specs.declared.fault.ImportFault.{ImportFault}
 use Rattle.cm_importing.specs.declared.fault.ImportFault.TheVariants as fault
 
@@ -120,6 +122,23 @@ takes_one_more sizes k loader classes old words answer mid new Matching pushed t
       (sym (map-append (λ (w : List ℕ). Define loader w) classes (words ∷ [])))
       (takes_more sizes k (defines loader classes) old mid (Define loader words) answer r.next
       taken r.does));
+  matches = r.matches;
+}
+
+-- one loader more
+pub one_loader_more : (sizes : Sizes) (k : Machine) (loaders : List (Vec ℕ)) (old : List Outcome)
+    (loader : Vec ℕ) (answer : Outcome) (mid : Machine) (new : List Outcome)
+    (Matching : Machine → Type 0)
+    → new ≡ old ++ answer ∷ [] → TakesEach sizes k (unloads loaders) old mid
+    → ReachesMachine (Takes sizes mid (Unload loader.items) answer) Matching
+    → ReachesMachine (TakesEach sizes k (unloads (loaders ++ loader ∷ [])) new) Matching
+one_loader_more sizes k loaders old loader answer mid new Matching pushed taken r = record {
+  next = r.next;
+  does = subst (λ l. TakesEach sizes k (unloads (loaders ++ loader ∷ [])) l r.next) (sym pushed)
+      (subst (λ l. TakesEach sizes k l (old ++ answer ∷ []) r.next)
+      (sym (map-append (λ (l : Vec ℕ). Unload l.items) loaders (loader ∷ [])))
+      (takes_more sizes k (unloads loaders) old mid (Unload loader.items) answer r.next taken
+      r.does));
   matches = r.matches;
 }
 

@@ -1,4 +1,6 @@
+pub mod Comparing
 pub mod Feeds
 pub mod Groups
 pub mod Outcomes
 pub mod Runs
+pub mod Unloading
