@@ -1,98 +1,146 @@
 #!/usr/bin/env bash
-# Classes that the machine's Java compiler writes for version 52.0 are accepted, and found again
-# with the flags and the super class that the JDK's own disassembler prints; their records have each
-# method's max stack, max locals and code length as it prints them. The same classes with single
-# bytes changed get the replies of tests/oracle.py, which shares no code with the program; it also
-# gives those of tests/vectors. Needs a JDK (javac, javap) and Python 3.
+# The Java library (docs/JAVA.md), by the jar that bin/build_java makes: each call with each
+# refusal, also with -Xcheck:jni, and with its C file under the address and undefined-behaviour
+# sanitizers; sixteen threads, caches that are closed meanwhile, little stack; a device that fails;
+# first starts that are killed, and two JVMs; records of a compiler's and of real jars' classes,
+# line by line beside ASM. Then much of it by each other JDK that is installed.
+#
+# KILLS=N kills N times instead of 10, SEED=N at other moments. Needs JDK 17 or Debian's
+# libasm-java, a C compiler with sanitizers and Python 3.
 set -u
 cd "$(dirname "$0")/.." || exit 1
 . tests/lib.sh
 
-mkdir "$work/classes"
-if ! javac --release 8 -Xlint:none -nowarn -g -d "$work/classes" \
-    tests/java/*.java 2>"$work/errors"; then
-    cat "$work/errors"
+if ! command -v javac >/dev/null; then
+    echo "there is no javac"
     echo "0 passed, 1 failed"
     exit 1
 fi
+quick_folder
+export LC_ALL=C.UTF-8 # otherwise Java can't name a file that isn't named in ASCII
+cmcache=$(executable)
+jdk=$(readlink -f "$(command -v javac)" | sed 's|/bin/javac$||')
+seed=${SEED:-$RANDOM}
 
-examples/define_lines.py app "$work/classes" >"$work/in"
-echo "ok 1" >"$work/want"
-number=1
-names=()
-while read -r file; do
-    name=${file#"$work/classes/"}
-    names+=("${name%.class}")
-    number=$((number + 1))
-    echo "ok $number ${name%.class}" >>"$work/want"
-done < <(find "$work/classes" -name '*.class' | LC_ALL=C sort)
+# ---- the jar
 
-# What the disassembler says of a class: its flags and its super class.
-told() {
-    javap -v -p -cp "$work/classes" "$1" | awk '
-        /^  flags: / && !flags { match($0, /0x[0-9a-f]+/); flags = substr($0, RSTART + 2, 4) }
-        /^  super_class: / { print flags, $NF; exit }'
+version=$(sed -n 's/^## \([0-9.]*\).*/\1/p' CHANGELOG.md | head -n 1)
+bin/build_java "$work/out" >"$work/log" 2>&1
+check_last "bin/build_java"
+[ ! -s "$work/log" ]
+check_last "javac, javadoc and the C compiler have no warning"
+cat "$work/log"
+jar=$work/out/cmcache-$version.jar
+python3 -m zipfile -e "$jar" "$work/jar"
+cmp "$work/jar/META-INF/maven/org.cmcache/cmcache/pom.xml" "$work/out/cmcache-$version.pom"
+check_last "the jar has its pom.xml"
+grep -q "<version>$version</version>" "$work/out/cmcache-$version.pom"
+check_last "with its version"
+nm -D --defined-only "$work"/jar/org/cmcache/*/*.so | grep -v ' T Java_org_cmcache_Native_'
+[ $? = 1 ]
+check_last "its library exports the calls of Native.java alone"
+[ "$(wc -l <java/jni.c)" -le 400 ]
+check_last "java/jni.c has at most 400 lines"
+
+# ---- the tests
+
+# Beside.java needs ASM: that of Debian's packages, or the one that is inside a JDK 17.
+asm=/usr/share/java/asm.jar:/usr/share/java/asm-tree.jar
+inside=()
+mkdir "$work/tests" "$work/beside"
+if [ -e /usr/share/java/asm.jar ] && [ -e /usr/share/java/asm-tree.jar ]; then
+    cp tests/java/library/Beside.java "$work/beside"
+else
+    sed 's/org\.objectweb\.asm/jdk.internal.&/' tests/java/library/Beside.java \
+        >"$work/beside/Beside.java"
+    inside=(--add-exports "java.base/jdk.internal.org.objectweb.asm=ALL-UNNAMED"
+        --add-exports "java.base/jdk.internal.org.objectweb.asm.tree=ALL-UNNAMED")
+fi
+mapfile -t sources < <(find tests/java/library -name '*.java' ! -name Beside.java)
+javac --release 8 -Xlint:all,-options,-try -Werror -cp "$jar" -d "$work/tests" "${sources[@]}"
+check_last "the tests are compiled for Java 8"
+javac "${inside[@]}" -nowarn -cp "$jar:$work/tests:$asm" -d "$work/tests" \
+    "$work/beside/Beside.java"
+check_last "Beside.java is compiled"
+mkdir "$work/shapes"
+javac --release 8 -Xlint:none -nowarn -g -d "$work/shapes" tests/java/*.java 2>"$work/errors"
+check_last "classes to load are compiled"
+
+# library NAME TEST WORD..: runs a test in a folder of its own, by $jdk with $options.
+options=()
+library() {
+    rm -rf "$quick/folder"
+    mkdir "$quick/folder"
+    counted "$1" "$jdk/bin/java" "${options[@]}" -cp "$jar:$work/tests:$asm" "$2" \
+        "$quick/folder" "${@:3}"
 }
 
-for name in "${names[@]}"; do
-    echo "find app $name" >>"$work/in"
-    read -r flags super < <(told "$work/classes/$name.class")
-    echo "class $name flags $flags super $super" >>"$work/want"
-done
-
-run apply --memory
-# The disassembler doesn't know the record's length.
-sed -E -i 's/^(class .*) words [0-9]+$/\1/' "$work/got"
-check "${#names[@]} compiled classes" 0
-
-# What the disassembler says of each method: class, name, descriptor, and of its code max stack, max
-# locals and the length, which is where the last instruction ends.
-told_methods() {
-    javap -v -p "$1" | awk '
-        function size(mnemonic) {
-            if (mnemonic ~ /^(.?return|athrow)$/) return 1
-            if (mnemonic == "goto") return 3
-            return mnemonic == "goto_w" ? 5 : "an end that this script does not know"
-        }
-        function tell() {
-            code = stack == "" ? "none" : stack " " locals " " at + size(last)
-            if (method) print class, method, descriptor, code
-            method = stack = ""
-        }
-        /^  this_class: / { class = dotted = $NF; gsub("/", ".", dotted) }
-        /^\{/ { inside = 1 }
-        !inside { next }
-        /^  [^ ].*;$/ { tell() }
-        /^\}/ { tell(); inside = 0 }
-        /^  static \{\};$/ { method = "<clinit>" }
-        /^  [^ ].*\(.*;$/ { sub(/\(.*/, ""); method = $NF == dotted ? "<init>" : $NF }
-        /^    descriptor: / { descriptor = $2 }
-        /^      stack=/ { split($0, part, /[=,]/); stack = part[2]; locals = part[4] }
-        /^ *[0-9]+: [a-z]/ { at = $1 + 0; last = $2 }'
+# no_warning NAME: the JVM had nothing to say in the last run.
+no_warning() {
+    ! grep -E 'WARNING|FATAL|ERROR' "$work/told"
+    check_last "$1: no warning of the JVM"
 }
 
-# The records of these classes say the same.
-bench=$(find_program cm_bench)
-for name in "${names[@]}"; do told_methods "$work/classes/$name.class"; done >"$work/want"
-bench/bench_classes.py "$work/classes" | "$bench" classes --methods >"$work/got"
-status=$?
-check "the code of $(wc -l <"$work/want") compiled methods" 0
+library "every call" EveryCall
+library "threads" Threads
+library "first starts that are killed" Processes "$cmcache" "${KILLS:-10}" "$seed"
+limited() (
+    ulimit -f 516
+    "$@"
+)
+mkdir "$quick/limited"
+counted "a device that fails" limited "$jdk/bin/java" -cp "$jar:$work/tests" EveryCall \
+    "$quick/limited" limited
+options=(-Xcheck:jni)
+library "every call, with -Xcheck:jni" EveryCall
+no_warning "every call"
 
-# Every seventh byte of each class, changed in three ways.
-mkdir "$work/changed"
-tests/changed_classes.py "$work/classes" "$work/changed" 7
-for script in "$work"/changed/*.in; do
-    cp "$script" "$work/in"
-    tests/oracle.py <"$work/in" >"$work/want"
-    wanted=$?
-    run apply --memory
-    check "changed classes, $(basename "$script" .in)" "$wanted"
+# Up to eight jars of the machine that have classes of version 52.0, apart from the class files that
+# a compiler has just written.
+mapfile -t jars < <(find /usr/share/java -name '*.jar' -type f -size +100k -size -4M 2>/dev/null |
+    LC_ALL=C sort | head -n 8)
+options=("${inside[@]}")
+file=$quick/beside
+counted "records" "$jdk/bin/java" "${options[@]}" -cp "$jar:$work/tests:$asm" Beside "$file" \
+    "$work/shapes" "${jars[@]}"
+[ "$("$cmcache" check "$file" | cut -d ' ' -f 1)" = ok ]
+check_last "the program opens the file that Java made"
+
+# The C file under sanitizers. The JVM keeps its own handlers of signals, and never gives back all
+# of its memory.
+"${CC:-cc}" -shared -std=c11 -O1 -g -fPIC -fsanitize=address,undefined -fno-sanitize-recover \
+    -fvisibility=hidden -Ic -I"$jdk/include" -I"$jdk/include/linux" \
+    -Wl,--version-script,java/exports.map -o "$work/sanitized.so" java/jni.c c/*.c \
+    "$(find_core)" -lpthread
+check_last "the library with sanitizers"
+sanitized() {
+    LD_PRELOAD="$("${CC:-cc}" -print-file-name=libasan.so) $("${CC:-cc}" \
+        -print-file-name=libubsan.so)" \
+    ASAN_OPTIONS=handle_segv=0:allow_user_segv_handler=1:detect_leaks=0 "$@"
+}
+for test in EveryCall Threads; do
+    rm -rf "$quick/folder"
+    mkdir "$quick/folder"
+    counted "$test with sanitizers" sanitized "$jdk/bin/java" \
+        -Dcmcache.library="$work/sanitized.so" -cp "$jar:$work/tests" $test "$quick/folder"
 done
 
-for script in tests/vectors/*.in; do
-    tests/oracle.py <"$script" >"$work/got"
-    status=$?
-    cp "${script%.in}.out" "$work/want"
-    check "the oracle on $(basename "$script" .in)" 1
-done
+# ---- the other JDKs that are installed: the newest has warnings of its own without the option
+
+others=0
+for other in /usr/lib/jvm/*/bin/javac; do
+    other=$(readlink -f "$other")
+    [ -x "$other" ] || continue
+    [ "$other" != "$(readlink -f "$(command -v javac)")" ] || continue
+    others=$((others + 1))
+    jdk=${other%/bin/javac}
+    name=$(basename "$jdk")
+    options=()
+    "$jdk/bin/java" --enable-native-access=ALL-UNNAMED -version 2>/dev/null &&
+        options=(--enable-native-access=ALL-UNNAMED)
+    library "every call, by $name" EveryCall
+    library "threads, by $name" Threads
+    done
+[ $others -gt 0 ] || echo "there is no other JDK: all tests ran by $jdk alone"
+
 finish

@@ -19,8 +19,9 @@ COLUMNS = 100
 UNBROKEN = re.compile(r"\s*(((pub|ghost) )*use [^,]*|#\[.*\])$")
 
 PARTS = ("src", "specs", "proofs")
-SCRIPTS = ("tests/*.py", "tests/*.sh", "tests/*.c", "tests/java/*", "tests/c/*", "bench/*", "c/*",
-           "examples/*.py", "examples/*/*.*", "tests/run", "tests/ci/*", "bin/*", ".ci/*")
+SCRIPTS = ("tests/*.py", "tests/*.sh", "tests/*.c", "tests/java/**/*", "tests/c/*", "bench/*",
+           "c/*", "java/**/*", "examples/*.py", "examples/*/*.*", "tests/run", "tests/ci/*",
+           "bin/*", ".ci/*")
 
 
 def listed():
