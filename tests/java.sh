@@ -3,10 +3,12 @@
 # refusal, also with -Xcheck:jni, and with its C file under the address and undefined-behaviour
 # sanitizers; sixteen threads, caches that are closed meanwhile, little stack; a device that fails;
 # first starts that are killed, and two JVMs; records of a compiler's and of real jars' classes,
-# line by line beside ASM. Then much of it by each other JDK that is installed.
+# line by line beside ASM; CachingClassLoader beside URLClassLoader; and programs that do the same
+# with the agent as without. Then much of it by each other JDK that is installed.
 #
 # KILLS=N kills N times instead of 10, SEED=N at other moments. Needs JDK 17 or Debian's
-# libasm-java, a C compiler with sanitizers and Python 3.
+# libasm-java, a C compiler with sanitizers and Python 3; of ant, Maven and Groovy it uses what is
+# there.
 set -u
 cd "$(dirname "$0")/.." || exit 1
 . tests/lib.sh
@@ -84,6 +86,7 @@ no_warning() {
 library "every call" EveryCall
 library "threads" Threads
 library "first starts that are killed" Processes "$cmcache" "${KILLS:-10}" "$seed"
+library "class loaders" Loading "$work/shapes"
 limited() (
     ulimit -f 516
     "$@"
@@ -94,6 +97,8 @@ counted "a device that fails" limited "$jdk/bin/java" -cp "$jar:$work/tests" Eve
 options=(-Xcheck:jni)
 library "every call, with -Xcheck:jni" EveryCall
 no_warning "every call"
+library "class loaders, with -Xcheck:jni" Loading "$work/shapes"
+no_warning "class loaders"
 
 # Up to eight jars of the machine that have classes of version 52.0, apart from the class files that
 # a compiler has just written.
@@ -125,6 +130,97 @@ for test in EveryCall Threads; do
         -Dcmcache.library="$work/sanitized.so" -cp "$jar:$work/tests" $test "$quick/folder"
 done
 
+# ---- the agent
+
+mapfile -t names < <(cd "$work/shapes" && find . -name '*.class' | sed 's|^./||; s|\.class$||' |
+    LC_ALL=C sort)
+count=$((${#names[@]} + 1)) # with App itself
+app() {
+    "$jdk/bin/java" "${options[@]}" "$@" -cp "$work/tests:$work/shapes" App "${names[@]}" \
+        >"$work/got" 2>"$work/errors"
+    status=$?
+}
+options=()
+app -Xshare:auto
+cp "$work/got" "$work/want"
+cp "$work/errors" "$work/want_errors"
+check "a program without the agent" 0
+
+# watched NAME AGENT LINE: with the agent it does the same, and ends with this line.
+watched() {
+    app "-javaagent:$jar=$2"
+    check "the agent: $1" 0
+    { cat "$work/want_errors" && echo "$3"; } | sort | cmp -s - <(sort "$work/errors")
+    check_last "the agent says: $1"
+    cmp -s <(sort "$work/errors") <({ cat "$work/want_errors"; echo "$3"; } | sort) ||
+        cat "$work/errors"
+}
+file=$quick/agent
+none="of other versions 0, refused 0"
+watched "a first start" "$file,app" \
+    "cmcache: $file, loader app: stored $count, there 0, changed 0, $none"
+watched "a second start" "$file" \
+    "cmcache: $file, loader app: stored 0, there $count, changed 0, $none"
+watched "another loader" "$file,other" \
+    "cmcache: $file, loader other: stored $count, there 0, changed 0, $none"
+[ "$("$cmcache" list "$file" | grep -c '^class ')" = $((2 * count)) ]
+check_last "the file has these classes"
+javac --release 8 -Xlint:none -nowarn -g:none -d "$work/shapes" tests/java/*.java 2>"$work/errors"
+watched "classes that changed" "$file" \
+    "cmcache: $file, loader app: stored 0, there 1, changed $((count - 1)), $none"
+javac --release 9 -Xlint:none -nowarn -d "$work/shapes" tests/java/*.java 2>"$work/errors"
+watched "classes of another version" "$file,newer" "cmcache: $file, loader newer: stored 1, there \
+0, changed 0, of other versions $((count - 1)), refused 0"
+javac --release 8 -Xlint:none -nowarn -g -d "$work/shapes" tests/java/*.java 2>"$work/errors"
+cp "$file" "$quick/kept"
+exec 9<>"$file"
+flock 9
+watched "a file in use" "$file" "cmcache: $file: the file is in use; nothing is stored"
+exec 9>&-
+cmp "$file" "$quick/kept"
+check_last "a file in use stays as it is"
+put "$file" 8 '\x02'
+watched "a damaged file" "$file" \
+    "cmcache: $file: damaged 1 0: the superblock; nothing is stored"
+watched "no folder" "$quick/none/file" \
+    "cmcache: $quick/none/file: No such file or directory; nothing is stored"
+watched "a bad name" "$quick/new,a b" \
+    "cmcache: a b: a loader's name is 1 to 96 printable ASCII characters; nothing is stored"
+watched "no file" "" \
+    "cmcache: -javaagent:cmcache.jar=FILE[,LOADER] names no file; nothing is stored"
+
+# real NAME WORD..: a program of Debian's packages writes the same with the agent as without.
+real() {
+    if ! command -v "$2" >/dev/null; then
+        echo "$2 isn't installed: it isn't run with the agent"
+        return
+    fi
+    (cd "$work" && JAVA_HOME=$jdk "${@:2}") >"$work/want" 2>"$work/want_errors"
+    (cd "$work" && JAVA_HOME=$jdk JAVA_TOOL_OPTIONS="-javaagent:$jar=$quick/real,$1" "${@:2}") \
+        >"$work/got" 2>"$work/errors"
+    status=$?
+    sed -i -E 's/(Total time|Finished at): .*/\1/' "$work/want" "$work/got"
+    check "$1 with the agent" 0
+    sed -i 's/\x1b\[[0-9;]*m//g; /^$/d' "$work/want_errors" "$work/errors" # no colours
+    grep -v '^Picked up JAVA_TOOL_OPTIONS\|^cmcache: ' "$work/errors" |
+        cmp -s - "$work/want_errors"
+    check_last "what $1 says of errors"
+    grep -E "^cmcache: .*, loader $1: stored [1-9][0-9]*, there 0, changed 0, " "$work/errors"
+    check_last "classes of $1 are stored"
+}
+cat >"$work/build.xml" <<'END'
+<project default="all"><target name="all">
+  <mkdir dir="made"/><copy file="build.xml" tofile="made/copy.xml"/>
+  <checksum file="made/copy.xml" property="sum"/><echo message="sum ${sum}"/>
+  <zip destfile="made/copy.zip" basedir="made" includes="copy.xml"/><delete dir="made"/>
+</target></project>
+END
+echo '<project><modelVersion>4.0.0</modelVersion><groupId>g</groupId><artifactId>a</artifactId>
+<version>1</version><packaging>pom</packaging></project>' >"$work/pom.xml"
+real ant ant -q
+real mvn mvn -o -B "-Dmaven.repo.local=$work/repository" validate
+real groovy groovy -e 'println((1..9).collect { it * it }.findAll { it % 2 })'
+
 # ---- the other JDKs that are installed: the newest has warnings of its own without the option
 
 others=0
@@ -140,7 +236,14 @@ for other in /usr/lib/jvm/*/bin/javac; do
         options=(--enable-native-access=ALL-UNNAMED)
     library "every call, by $name" EveryCall
     library "threads, by $name" Threads
-    done
+    library "class loaders, by $name" Loading "$work/shapes"
+    rm -f "$file"
+    app -Xshare:auto
+    cp "$work/got" "$work/want"
+    cp "$work/errors" "$work/want_errors"
+    watched "by $name" "$file" \
+        "cmcache: $file, loader app: stored $count, there 0, changed 0, $none"
+done
 [ $others -gt 0 ] || echo "there is no other JDK: all tests ran by $jdk alone"
 
 finish
