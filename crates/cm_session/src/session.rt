@@ -21,7 +21,7 @@ ghost use Rattle.cm_session.specs.Session.{Past};
 
 use crate::joining::join_queued;
 use crate::queue::Queue;
-use cm_commands::{Command, Refusal};
+use cm_commands::{Command, Prepared, Refusal};
 use cm_commit::{AdvanceFault, Committer, NotIdle, Progress};
 use cm_disk::{Disk, SimDisk};
 use cm_front::Front;
@@ -32,6 +32,7 @@ use cm_handover::{
 };
 use cm_pool::Geometry;
 use cm_record::Record;
+use cm_rows::LiveRows;
 use std::alloc::{AllocError, Global};
 use std::sync::Arc;
 
@@ -263,6 +264,13 @@ impl<D: Disk> Session<D> {
     {
         commands_follow_the_machine();
         self.front.find(loader, class)
+    }
+
+    /// The accepted loaders and classes by their rows, each class with its record.
+    pub fn rows(&self) -> &LiveRows<Prepared>
+        ensures { result.now.rows ≡ self.now.front.rows }
+    {
+        self.front.rows()
     }
 
     /// Does nothing: its clause says what a crash leaves now. That is all commands that were

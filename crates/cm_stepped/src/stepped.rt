@@ -16,11 +16,12 @@ ghost use Rattle.cm_stepped.specs.Stepping.{SteppedMatches, HandsOut, Asks, Asks
 ghost use Rattle.cm_stepped.specs.Stepping.{AsksNone, rests, is_last, is_idle};
 
 use crate::step::{Broken, Step};
-use cm_commands::{Command, Refusal};
+use cm_commands::{Command, Prepared, Refusal};
 use cm_commit::Progress;
 use cm_disk::Disk;
 use cm_pool::Geometry;
 use cm_record::Record;
+use cm_rows::LiveRows;
 use cm_session::Session;
 use std::alloc::Global;
 use std::sync::Arc;
@@ -118,6 +119,13 @@ impl<D: Disk> SteppedSession<D> {
             (option_map (λ r. arc_value r.now) result) }
     {
         self.session.find(loader, class)
+    }
+
+    /// The accepted loaders and classes by their rows, each class with its record.
+    pub fn rows(&self) -> &LiveRows<Prepared>
+        ensures { result.now.rows ≡ self.now.session.front.rows }
+    {
+        self.session.rows()
     }
 
     /// Hands out the oldest group of accepted commands, once all that was handed out is stored.
