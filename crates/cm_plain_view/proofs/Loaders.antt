@@ -1,7 +1,7 @@
 -- Loaders as plain data are those of rows.
 -- For `find_class`, `write_loaders`.
-use Rattle.std.proofs.Common.{◌≡◌, ℕ, ◌+◌, ◌<◌, List, [], ◌∷◌, ◌++◌, length, map, take, set, get_or}
-use Rattle.std.proofs.Common.{ap, sym, subst, ◌∙◌, arith}
+use Rattle.std.proofs.Common.{◌≡◌, ℕ, ◌+◌, ◌<◌, List, [], ◌∷◌, ◌++◌, length, map, take, set}
+use Rattle.std.proofs.Common.{get_or, ap, sym, ◌∙◌, arith}
 use Rattle.std.specs.Ordering.{is_lt, nat_cmp}
 use Rattle.std.specs.Cmp.Lexicographic.{slice_cmp}
 use Rattle.std.proofs.lemmas.List.{get_or-map, length-map, map-append, take_more, take_more_set}
@@ -26,7 +26,8 @@ sorted_as ls order k d low lt =
     let before = row_at ls k d e (omega arith) in
     let next = row_at ls (k + 1) d e lt in
     let is = order k e low (omega (arith, long)) in
-    ap (λ (a : LoaderRow). is_lt (slice_cmp nat_cmp a.name (loader_name (get_or ls k d)))) (sym next)
+    ap (λ (a : LoaderRow). is_lt (slice_cmp nat_cmp a.name (loader_name (get_or ls k d))))
+    (sym next)
     ∙ ap (λ (b : LoaderRow).
     is_lt (slice_cmp nat_cmp (get_or (map loader_row ls) (k + 1) e).name b.name)) (sym before)
     ∙ is

@@ -45,7 +45,7 @@ pub record HasMore (contents : List ℕ) (rows loaders : ℕ) (counts : ViewCoun
   pub counted : counts ≡ counts_of view
   pub more : IsTooMuch counts rows loaders
 
--- why there is none in memory with room for so many rows and loaders
+-- why there is none in memory with room for this many rows and loaders
 abbrev pub IsNotViewed : List ℕ → ℕ → ℕ → ViewCounts → NotViewed → Type 0
 IsNotViewed contents rows loaders counts (Fault e) = IsViewFault contents e
 IsNotViewed contents rows loaders counts NoRoom = HasMore contents rows loaders counts

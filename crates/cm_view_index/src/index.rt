@@ -28,8 +28,8 @@ fn is_for(bytes: &[u8], row: &ViewRow, loader: u64, name: &[u8]) -> bool
 }
 
 /// Where a row of this loader that shows this name is among the rows. If the rows are an index of
-/// these bytes and there is none, none shows it. About a logarithm of the rows is looked at, whatever
-/// names they show.
+/// these bytes and there is none, none shows it. About a logarithm of the rows is looked at,
+/// whatever names they show.
 pub fn find_at(bytes: &[u8], rows: &[ViewRow], loader: u64, name: &[u8]) -> Option<usize>
     ensures some { IfSome result (IsRowAt bytes.now rows.now loader name.now) }
     ensures none { IfNone result

@@ -1,0 +1,10 @@
+use Rattle.std.proofs.Common.{◌≡◌, ◌++◌, length}
+use Rattle.cm_listed_names.specs.Names.{class_names_in, texts}
+use Rattle.cm_listed_names.proofs.names.gather_classes.Given as goal
+
+abbrev pub invariant-loop-row : goal.invariant-loop-row
+invariant-loop-row l =
+    texts l.names.items ++ class_names_in l.loader l.left ≡ class_names_in l.loader l.rows.rows
+
+abbrev pub decreases-loop-row : goal.decreases-loop-row
+decreases-loop-row l = length l.left
