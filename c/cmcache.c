@@ -17,6 +17,7 @@ enum { LANES = 64 };
 
 struct cmcache {
     int file;
+    bool read_only; /* it has no flusher, and takes no command */
     pthread_t flusher;
     pthread_mutex_t mutex;
     pthread_cond_t work;         /* the flusher waits here */
@@ -90,6 +91,8 @@ static int32_t start(cmcache *cache)
         return status;
     cache->stored = stats.stored;
     cache->accepted = stats.stored;
+    if (cache->read_only)
+        return CMCORE_OK;
     sigfillset(&all);
     pthread_sigmask(SIG_SETMASK, &all, &before);
     int fault = pthread_create(&cache->flusher, NULL, flush, cache);
@@ -125,15 +128,35 @@ static void discard(cmcache *cache)
     free(cache);
 }
 
-int32_t cmcache_open(const char *path, cmcache **cache, cmcore_damage *damage)
+/* Opens what is locked as the options say. */
+static int32_t open_locked(cmcache *cache, const char *path, const cmcache_options *options,
+                           cmcore_damage *damage)
+{
+    int32_t status = CMCORE_OK;
+    if (options->read_only)
+        return cmfile_read_cache(cache->file, &cache->core, damage);
+    if (options->create)
+        status = cmfile_format_if_empty(cache->file, path, options->top, options->roots,
+                                        options->slots);
+    if (status == CMCORE_OK)
+        status = cmfile_open_cache(cache->file, &cache->core, damage);
+    return status;
+}
+
+int32_t cmcache_open_with(const char *path, const cmcache_options *options, cmcache **cache,
+                          cmcore_damage *damage)
 {
     cmcore_damage found = {0};
+    cmfile_use use = options->create ? CMFILE_MAKE : CMFILE_WRITE;
     cmcache *made = new_cache();
     if (made == NULL)
         return CMCORE_NO_MEMORY;
-    int32_t status = cmfile_open(path, &made->file);
+    made->read_only = options->read_only;
+    if (options->read_only)
+        use = CMFILE_READ;
+    int32_t status = cmfile_open(path, use, options->wait_ms, &made->file);
     if (status == CMCORE_OK)
-        status = cmfile_open_cache(made->file, &made->core, &found);
+        status = open_locked(made, path, options, &found);
     if (status == CMCORE_OK)
         status = start(made);
     if (status == CMCORE_OK)
@@ -145,15 +168,28 @@ int32_t cmcache_open(const char *path, cmcache **cache, cmcore_damage *damage)
     return status;
 }
 
-int32_t cmcache_close(cmcache *cache)
+int32_t cmcache_open(const char *path, cmcache **cache, cmcore_damage *damage)
 {
-    if (cache == NULL)
-        return CMCORE_OK;
+    const cmcache_options options = CMCACHE_DEFAULTS;
+    return cmcache_open_with(path, &options, cache, damage);
+}
+
+/* Ends the flusher, once all is stored. */
+static void stop(cmcache *cache)
+{
     pthread_mutex_lock(&cache->mutex);
     cache->closing = true;
     pthread_cond_signal(&cache->work);
     pthread_mutex_unlock(&cache->mutex);
     pthread_join(cache->flusher, NULL);
+}
+
+int32_t cmcache_close(cmcache *cache)
+{
+    if (cache == NULL)
+        return CMCORE_OK;
+    if (!cache->read_only)
+        stop(cache);
     bool failed = cache->failed;
     if (failed)
         errno = cache->cause;
@@ -198,6 +234,8 @@ static int32_t run(cmcache *cache, acceptor *accept, const char *text, size_t le
                    uint64_t *number, bool waits)
 {
     uint64_t given = 0;
+    if (cache->read_only)
+        return CMCACHE_READ_ONLY;
     pthread_mutex_lock(&cache->mutex);
     int32_t status = accept(&cache->core, bytes_of(text), len, &given);
     return finish(cache, status, given, number, waits);
@@ -207,6 +245,8 @@ static int32_t define(cmcache *cache, const char *loader, size_t loader_len,
                       cmcache_prepared *prepared, uint64_t *number, bool waits)
 {
     uint64_t given = 0;
+    if (cache->read_only)
+        return CMCACHE_READ_ONLY;
     pthread_mutex_lock(&cache->mutex);
     int32_t status = cmcore_define(&cache->core, bytes_of(loader), loader_len, &prepared->handle,
                                    &given);
@@ -308,4 +348,58 @@ int32_t cmcache_stats(cmcache *cache, cmcore_stats *stats)
     int32_t status = cmcore_get_stats(&cache->core, stats);
     pthread_mutex_unlock(&cache->mutex);
     return status;
+}
+
+int32_t cmcache_contains(cmcache *cache, const char *loader, size_t loader_len, const char *name,
+                         size_t name_len)
+{
+    cmcache_record record = CMCACHE_EMPTY;
+    int32_t status = cmcache_find(cache, loader, loader_len, name, name_len, &record);
+    cmcache_release_record(&record);
+    return status;
+}
+
+int32_t cmcache_same(cmcache *cache, const char *loader, size_t loader_len,
+                     cmcache_prepared *prepared)
+{
+    pthread_mutex_lock(&cache->mutex);
+    int32_t status = cmcore_same(&cache->core, bytes_of(loader), loader_len, &prepared->handle);
+    pthread_mutex_unlock(&cache->mutex);
+    return status;
+}
+
+/* ---- listing */
+
+/* Calls `each` with each name, and empties the handle that leads to them. */
+static int32_t tell_names(cmcore_handle *names, cmcache_each *each, void *context)
+{
+    const uint8_t *name = NULL;
+    size_t len = 0;
+    int32_t status = CMCORE_OK;
+    for (size_t at = 0; status == CMCORE_OK; at++) {
+        if (cmcore_name(names, at, &name, &len) != CMCORE_OK)
+            break;
+        status = each(context, (const char *)name, len);
+    }
+    cmcore_release(names);
+    return status;
+}
+
+int32_t cmcache_loaders(cmcache *cache, cmcache_each *each, void *context)
+{
+    cmcore_handle names = {0};
+    pthread_mutex_lock(&cache->mutex);
+    int32_t status = cmcore_loader_names(&cache->core, &names);
+    pthread_mutex_unlock(&cache->mutex);
+    return status == CMCORE_OK ? tell_names(&names, each, context) : status;
+}
+
+int32_t cmcache_classes(cmcache *cache, const char *loader, size_t loader_len, cmcache_each *each,
+                        void *context)
+{
+    cmcore_handle names = {0};
+    pthread_mutex_lock(&cache->mutex);
+    int32_t status = cmcore_class_names(&cache->core, bytes_of(loader), loader_len, &names);
+    pthread_mutex_unlock(&cache->mutex);
+    return status == CMCORE_OK ? tell_names(&names, each, context) : status;
 }

@@ -36,10 +36,14 @@ enum {
     CMCACHE_DEVICE = 40,      /* a call of the system on the file failed */
     CMCACHE_EXISTS = 41,      /* something has the name of the file that is to be made */
     CMCACHE_BUSY = 42,        /* the file is in use, in this process or another */
-    CMCACHE_NOT_REGULAR = 43  /* a folder, a pipe, a device */
+    CMCACHE_NOT_REGULAR = 43, /* a folder, a pipe, a device */
+    CMCACHE_NO_FILE = 44,     /* nothing has this name */
+    CMCACHE_NOT_ALLOWED = 45, /* the file, or its folder, may not be opened in this way */
+    CMCACHE_READ_ONLY = 46    /* a command for a cache that was opened only to read it */
 };
 
 typedef struct cmcache cmcache;
+typedef struct cmcache_view cmcache_view;
 
 /* Each is its handle: the inline calls below are calls of cmcore.h, which other languages make. */
 typedef struct {
@@ -57,24 +61,52 @@ typedef struct {
 #define CMCACHE_VERSION "0.2.0"
 const char *cmcache_version(void);
 
-/* What a status means, in a few words of English. */
+/* What a status, the damage of a file, or the fault of a class means, in a few words of English. */
 const char *cmcache_status_text(int32_t status);
+const char *cmcache_damage_text(const cmcore_damage *damage);
+const char *cmcache_bad_class_text(const cmcore_bad_class *bad);
 
 /* ---- a file */
 
 /* Makes a new file with an empty cache. A root has 128 * 2^top words of 8 bytes (top is 3 to 12),
  * the file has at most `roots` of them (1 to 256), and each half of its journal has `slots` slots
- * (256 to 65536). File and folder are synced. OK, EXISTS, BAD_SIZES, DEVICE, NO_MEMORY: after the
- * last three there is no such file, unless it can't be removed. */
+ * (256 to 65536). File and folder are synced. OK, EXISTS; BAD_SIZES, NO_FILE (there is no such
+ * folder), NOT_ALLOWED, DEVICE, NO_MEMORY: after these there is no such file, unless it can't be
+ * removed. */
 int32_t cmcache_format(const char *path, uint32_t top, uint32_t roots, uint32_t slots);
 
 /* Opens the cache in a file, and locks the file (flock) until it is closed, as the programs of
  * cmcache do: meanwhile nothing else writes to it. A file of version 1 is upgraded; if that fails,
  * it still holds the same loaders and classes. The file is mapped while it is read: if its device
  * can't give a byte then, or somebody cuts the file, the system sends SIGBUS. OK, and *cache is
- * set; DAMAGED, and *damage says where, unless it is NULL; NOT_A_CACHE, BUSY, NOT_REGULAR,
- * TOO_LONG, DEVICE; NO_MEMORY, also if no thread can be started. */
+ * set; DAMAGED, and *damage says where, unless it is NULL; NOT_A_CACHE, BUSY, NOT_REGULAR, NO_FILE,
+ * NOT_ALLOWED, TOO_LONG, DEVICE; NO_MEMORY, also if no thread can be started. */
 int32_t cmcache_open(const char *path, cmcache **cache, cmcore_damage *damage);
+
+/* How a cache is opened. */
+typedef struct {
+    bool create;      /* make the file if there is none, or format it if it is empty: */
+    uint32_t top;     /* the sizes of cmcache_format */
+    uint32_t roots;
+    uint32_t slots;
+    bool read_only;   /* commands are refused as READ_ONLY, and nothing is ever written: */
+                      /* any number of processes may have the file so at once */
+    uint32_t wait_ms; /* if the file is in use: wait for it at most these milliseconds */
+} cmcache_options;
+
+/* What cmcache_open takes; with other members, sizes that serve some 2,000 classes. */
+#define CMCACHE_DEFAULTS {false, 8, 64, 4096, false, 0}
+
+/* The same with options. In addition BAD_SIZES, if the file is to be made; and OLDER for a file of
+ * version 1 that is opened only to read it, since it can't be upgraded. A process that is killed
+ * while it makes the file leaves one that is empty, which is made again, or NOT_A_CACHE. */
+int32_t cmcache_open_with(const char *path, const cmcache_options *options, cmcache **cache,
+                          cmcore_damage *damage);
+
+/* Sizes for a file that is to hold this many classes, of this many bytes of class files in all,
+ * with room for as many again where a file can have that. OK; BAD_SIZES if no file holds them. */
+int32_t cmcache_sizes_for(uint64_t classes, uint64_t bytes, uint32_t *top, uint32_t *roots,
+                          uint32_t *slots);
 
 /* Closes the cache: all that was accepted is stored, unless the device failed. The cache is gone
  * whatever this returns. OK, and DEVICE if the device failed since the cache was opened. NULL is no
@@ -166,6 +198,75 @@ int32_t cmcache_find(cmcache *cache, const char *loader, size_t loader_len, cons
 
 /* OK. */
 int32_t cmcache_stats(cmcache *cache, cmcore_stats *stats);
+
+/* Whether the class of this prepared class's name that the loader has is the same: its record has
+ * the same words. OK; CMCORE_OTHER: another class has the name; NONE, NO_MEMORY. */
+int32_t cmcache_same(cmcache *cache, const char *loader, size_t loader_len,
+                     cmcache_prepared *prepared);
+
+/* ---- listing
+ *
+ * A name is given in a call of `each`, with what was passed as `context`, and is valid until it
+ * returns. If it returns anything but 0, the listing ends and returns that. */
+
+typedef int32_t cmcache_each(void *context, const char *name, size_t len);
+
+/* The loaders of the accepted cache, and the classes of one of them, in byte order of their names,
+ * as they are at one moment during the call. No lock is held while `each` runs, so it may make any
+ * call with the cache, apart from closing it. OK, NO_LOADER, NO_MEMORY. */
+int32_t cmcache_loaders(cmcache *cache, cmcache_each *each, void *context);
+int32_t cmcache_classes(cmcache *cache, const char *loader, size_t loader_len, cmcache_each *each,
+                        void *context);
+
+/* Whether the loader has a class of this name. OK, CMCORE_NONE. */
+int32_t cmcache_contains(cmcache *cache, const char *loader, size_t loader_len, const char *name,
+                         size_t name_len);
+
+/* ---- a file that is only read
+ *
+ * A view maps a file, and finds its classes in the mapping. It is open within milliseconds, since
+ * no record is judged before it is asked for; from then on the record is known to be good. What is
+ * found is what a cache of the file would find; docs/VIEW.md has what is promised of a file that is
+ * damaged.
+ *
+ * The file may be on a file system that can't be written to, and the process needs no right to
+ * write to it. Any number of processes and threads may view a file at once, and its pages are
+ * shared. It is locked until the view is closed: meanwhile no cache of it is opened for writing,
+ * which would be BUSY, as this call is while one is open. A file of version 1 is viewed as it is.
+ *
+ * All calls with one view may run at the same time, without a lock, except cmcache_view_close: no
+ * other call with the view may run by then, or begin later. If somebody cuts the file, or its
+ * device can't give a byte, the system sends SIGBUS to whoever reads it: in any of these calls, and
+ * where the words of a record are read. Whoever writes to the file in spite of the lock breaks all
+ * of this. */
+
+/* The words of a record, where they are in the mapping: valid until the view is closed.
+ * docs/RECORD.md describes them. */
+typedef struct {
+    const uint64_t *words;
+    size_t count;
+} cmcache_words;
+
+/* OK, and *view is set; DAMAGED, and *damage says where, unless it is NULL; NOT_A_CACHE, BUSY,
+ * NOT_REGULAR, NO_FILE, NOT_ALLOWED, TOO_LONG, DEVICE, NO_MEMORY. */
+int32_t cmcache_open_read_only(const char *path, cmcache_view **view, cmcore_damage *damage);
+
+/* Unmaps and unlocks the file. NULL is no view. */
+void cmcache_view_close(cmcache_view *view);
+
+/* The record of a class. OK, NONE, NO_MEMORY; DAMAGED if what has the name isn't the record of a
+ * class that keeps the rules. */
+int32_t cmcache_view_find(const cmcache_view *view, const char *loader, size_t loader_len,
+                          const char *name, size_t name_len, cmcache_words *words);
+
+/* The loaders, in byte order of their names, and the classes of one of them, in no particular
+ * order; records aren't judged for that. OK, NO_LOADER. */
+int32_t cmcache_view_loaders(const cmcache_view *view, cmcache_each *each, void *context);
+int32_t cmcache_view_classes(const cmcache_view *view, const char *loader, size_t loader_len,
+                             cmcache_each *each, void *context);
+
+/* How many classes (`rows`) and loaders there are, and the number of the last command. OK. */
+int32_t cmcache_view_stats(const cmcache_view *view, cmcore_view_counts *counts);
 
 /* ---- a record; docs/RECORD.md describes its words
  *

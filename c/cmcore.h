@@ -43,7 +43,9 @@ enum {
     CMCORE_OLDER = 23,        /* a file of version 1: cmcore_upgrade comes first */
     CMCORE_NONE = 24,         /* there is no such class, constant, member or code */
     CMCORE_EMPTY = 25,
-    CMCORE_TOO_LONG = 26      /* there are more than 2^40 bytes */
+    CMCORE_TOO_LONG = 26,     /* there are more than 2^40 bytes */
+    CMCORE_NO_ROOM = 27,      /* there is more than the caller has room for */
+    CMCORE_OTHER = 28         /* another class has this name */
 };
 
 typedef struct {
@@ -62,7 +64,13 @@ typedef struct {
 } cmcore_call;
 
 /* Why bytes are no class that keeps the rules. */
-enum { CMCORE_TRUNCATED = 1, CMCORE_TRAILING = 2, CMCORE_MALFORMED = 3, CMCORE_RULE = 4 };
+enum {
+    CMCORE_TRUNCATED = 1,
+    CMCORE_TRAILING = 2,
+    CMCORE_MALFORMED = 3,
+    CMCORE_RULE = 4,
+    CMCORE_OTHER_VERSION = 5 /* it begins as a class file of another version than 52.0 */
+};
 enum {
     CMCORE_SPOT_POOL = 1,
     CMCORE_SPOT_THIS = 2,
@@ -77,7 +85,8 @@ typedef struct {
     uint32_t kind;
     uint32_t rule;  /* of CMCORE_RULE: 1 to 24, as docs/RULES.md numbers them */
     uint32_t spot;  /* of CMCORE_RULE */
-    uint64_t at;    /* trailing, malformed: a byte; a rule: the index at the spot */
+    uint64_t at;    /* trailing, malformed: a byte; a rule: the index at the spot; */
+                    /* another version: 65,536 * its major number + its minor one */
 } cmcore_bad_class;
 
 /* The first damage of a file: what (1 to 9, as docs/REGION.md numbers them), and in which slot. */
@@ -123,6 +132,20 @@ int32_t cmcore_unload_all(cmcore_handle *cache, const uint8_t *loaders, size_t l
 int32_t cmcore_find(cmcore_handle *cache, const uint8_t *loader, size_t loader_len,
                     const uint8_t *name, size_t name_len, cmcore_handle *record);
 
+/* Whether the class of the prepared class's name that the loader has is the same: its record has
+ * the same words. OK; OTHER, another class has the name; NONE, NO_MEMORY. */
+int32_t cmcore_same(cmcore_handle *cache, const uint8_t *loader, size_t loader_len,
+                    cmcore_handle *prepared);
+
+/* The names of the loaders, and of the classes of one of them, in byte order, as they are now: a
+ * handle of kind `names`, which stays as it is. OK, NO_LOADER, NO_MEMORY. */
+int32_t cmcore_loader_names(cmcore_handle *cache, cmcore_handle *names);
+int32_t cmcore_class_names(cmcore_handle *cache, const uint8_t *loader, size_t loader_len,
+                           cmcore_handle *names);
+
+/* One of the names, counted from 0, where it is; valid until the handle is released. OK, NONE. */
+int32_t cmcore_name(cmcore_handle *names, size_t at, const uint8_t **name, size_t *len);
+
 /* The next step: it is told whether the call that was to be made was made, which it ignores if
  * there was none, and has the next one noted, for cmcore_next_call. A handle of kind `calls` shows
  * its first call before the first step, a cache none.
@@ -145,6 +168,8 @@ typedef struct {
     uint32_t top;
     uint32_t roots;
     uint32_t slots;
+    size_t live;       /* how many loaders and classes live */
+    size_t live_slots; /* how many slots they take; at half of `slots` the cache is full */
 } cmcore_stats;
 
 int32_t cmcore_get_stats(cmcore_handle *cache, cmcore_stats *stats);
@@ -202,6 +227,67 @@ typedef struct {
 } cmcore_code;
 
 int32_t cmcore_record_code(cmcore_handle *record, const cmcore_member *method, cmcore_code *code);
+
+/* ---- a view of a file's bytes
+ *
+ * The caller owns the bytes, the rows and the loaders. No call but cmcore_view_open writes to them,
+ * and none keeps anything, so any number of these calls may run at the same time. The bytes must
+ * not change during a call. What is found in other bytes than those that were opened may be
+ * missing, but it is never anything else than what its call says. */
+
+/* A live class. */
+typedef struct {
+    uint64_t loader; /* the number of its loader */
+    uint64_t at;     /* where its record begins, in bytes from the first byte */
+    uint32_t words;  /* how many words the record has */
+    uint32_t slot;   /* the slot of the entry that defined it */
+    uint32_t mark;   /* what it is sorted by */
+} cmcore_view_row;
+
+/* A live loader. */
+typedef struct {
+    uint64_t number;
+    uint32_t len;
+    uint8_t name[96];
+} cmcore_view_loader;
+
+typedef struct {
+    size_t rows;     /* one for each class */
+    size_t loaders;
+    uint64_t number; /* the number of the last command */
+} cmcore_view_counts;
+
+/* Opens a view of a file's bytes: writes its rows and loaders from the front on, the latter in byte
+ * order of their names. No file has more than 32,768 of either. It looks at the journal and at the
+ * names in the records; no record is judged. OK; NO_ROOM, and *counts says how much there is;
+ * NOT_A_CACHE, DAMAGED (and *damage says where), NO_MEMORY. If the bytes stand for a cache it is
+ * one of OK, NO_ROOM and NO_MEMORY. */
+int32_t cmcore_view_open(const uint8_t *bytes, size_t len, cmcore_view_row *rows, size_t row_room,
+                         cmcore_view_loader *loaders, size_t loader_room,
+                         cmcore_view_counts *counts, cmcore_damage *damage);
+
+/* Where the row of the class of this name in the loader of this name is. Its record isn't judged.
+ * OK, NONE. */
+int32_t cmcore_view_find(const uint8_t *bytes, size_t len, const cmcore_view_row *rows,
+                         size_t row_count, const cmcore_view_loader *loaders, size_t loader_count,
+                         const uint8_t *loader, size_t loader_len, const uint8_t *name,
+                         size_t name_len, size_t *at);
+
+/* Judges the record of a row. OK: it is the record of a class that keeps the rules, and has the
+ * name by which the row was found. DAMAGED, NO_MEMORY. */
+int32_t cmcore_view_judge(const uint8_t *bytes, size_t len, const cmcore_view_row *row);
+
+/* The number of the loader of this name. OK, NONE. */
+int32_t cmcore_view_loader_number(const cmcore_view_loader *loaders, size_t loader_count,
+                                  const uint8_t *name, size_t name_len, uint64_t *number);
+
+/* Where the first row of the loader of this number is, from a place on. OK, NONE. */
+int32_t cmcore_view_next(const cmcore_view_row *rows, size_t row_count, uint64_t loader,
+                         size_t from, size_t *at);
+
+/* The name that a row's record shows, where it is in the bytes. OK. */
+int32_t cmcore_view_name(const uint8_t *bytes, size_t len, const cmcore_view_row *row,
+                         const uint8_t **name, size_t *name_len);
 
 /* ---- any handle */
 

@@ -10,9 +10,13 @@
 #include <sys/file.h>
 #include <sys/mman.h>
 #include <sys/stat.h>
+#include <time.h>
 #include <unistd.h>
 
-enum { PIECE = 65536 }; /* the most bytes of one write */
+enum {
+    PIECE = 65536, /* the most bytes of one write */
+    PAUSE_MS = 10  /* between two tries of a lock */
+};
 static const off_t MOST_BYTES = (off_t)1 << 40;
 
 /* ---- device calls */
@@ -67,6 +71,20 @@ static bool make_all(int file, cmcore_handle *calls)
 
 /* ---- making a file */
 
+/* Why a file isn't opened. */
+static int32_t refused_open(void)
+{
+    switch (errno) {
+    case ENOENT:
+    case ENOTDIR: return CMCACHE_NO_FILE;
+    case EACCES:
+    case EPERM:
+    case EROFS: return CMCACHE_NOT_ALLOWED;
+    case EISDIR: return CMCACHE_NOT_REGULAR;
+    default: return CMCACHE_DEVICE;
+    }
+}
+
 void cmfile_close(int file)
 {
     int cause = errno;
@@ -89,14 +107,31 @@ static bool sync_folder(const char *path)
     return synced;
 }
 
-/* The file is locked, so that nobody opens it as a cache before it is certain that it stays. */
+static bool is_empty(int file)
+{
+    struct stat info;
+    return fstat(file, &info) == 0 && info.st_size == 0;
+}
+
+/* Makes a cache in an empty file that is locked, so that nobody opens it as a cache before it is
+ * certain that it stays. */
+static bool make_cache(int file, const char *path, cmcore_handle *calls)
+{
+    return fsync(file) == 0 && sync_folder(path) && make_all(file, calls);
+}
+
+/* Somebody else may have locked the new file first, and made a cache in it. */
 static int32_t create(const char *path, cmcore_handle *calls)
 {
     int file = open(path, O_RDWR | O_CREAT | O_EXCL | O_CLOEXEC, 0666);
     if (file < 0)
-        return errno == EEXIST ? CMCACHE_EXISTS : CMCACHE_DEVICE;
-    bool made = flock(file, LOCK_EX) == 0 && fsync(file) == 0 && sync_folder(path)
-                && make_all(file, calls);
+        return errno == EEXIST ? CMCACHE_EXISTS : refused_open();
+    bool locked = flock(file, LOCK_EX) == 0;
+    if (locked && !is_empty(file)) {
+        cmfile_close(file);
+        return CMCACHE_EXISTS;
+    }
+    bool made = locked && make_cache(file, path, calls);
     int cause = errno;
     if (!made)
         unlink(path);
@@ -115,61 +150,121 @@ int32_t cmcache_format(const char *path, uint32_t top, uint32_t roots, uint32_t 
     return status;
 }
 
+/* If it fails, the file stays, since others may wait for its lock; it is emptied again. */
+int32_t cmfile_format_if_empty(int file, const char *path, uint32_t top, uint32_t roots,
+                               uint32_t slots)
+{
+    cmcore_handle calls = {0};
+    if (!is_empty(file))
+        return CMCORE_OK;
+    int32_t status = cmcore_format(top, roots, slots, &calls);
+    if (status == CMCORE_OK && !make_cache(file, path, &calls)) {
+        int cause = errno;
+        status = CMCACHE_DEVICE;
+        if (ftruncate(file, 0) == 0)
+            errno = cause;
+    }
+    cmcore_release(&calls);
+    return status;
+}
+
 /* ---- opening a file */
 
-int32_t cmfile_open(const char *path, int *file)
+/* Locks a file. If another one has it, the lock is tried again and again for a while. */
+static int32_t lock(int file, int kind, uint32_t wait_ms)
+{
+    struct timespec pause = {.tv_nsec = PAUSE_MS * 1000000L};
+    for (uint64_t waited = 0; flock(file, kind | LOCK_NB) < 0; waited += PAUSE_MS) {
+        if (errno != EWOULDBLOCK && errno != EINTR)
+            return CMCACHE_DEVICE;
+        if (waited >= wait_ms)
+            return CMCACHE_BUSY;
+        nanosleep(&pause, NULL);
+    }
+    return CMCORE_OK;
+}
+
+int32_t cmfile_open(const char *path, cmfile_use use, uint32_t wait_ms, int *file)
 {
     struct stat info;
-    *file = open(path, O_RDWR | O_NONBLOCK | O_NOCTTY | O_CLOEXEC);
+    int how = use == CMFILE_READ ? O_RDONLY : use == CMFILE_MAKE ? O_RDWR | O_CREAT : O_RDWR;
+    *file = open(path, how | O_NONBLOCK | O_NOCTTY | O_CLOEXEC, 0666);
     if (*file < 0)
-        return errno == EISDIR ? CMCACHE_NOT_REGULAR : CMCACHE_DEVICE;
+        return refused_open();
     if (fstat(*file, &info) < 0)
         return CMCACHE_DEVICE;
     if (!S_ISREG(info.st_mode))
         return CMCACHE_NOT_REGULAR;
-    if (flock(*file, LOCK_EX | LOCK_NB) < 0)
-        return errno == EWOULDBLOCK ? CMCACHE_BUSY : CMCACHE_DEVICE;
+    return lock(*file, use == CMFILE_READ ? LOCK_SH : LOCK_EX, wait_ms);
+}
+
+int32_t cmfile_map(int file, const uint8_t **bytes, size_t *len)
+{
+    struct stat info;
+    *bytes = NULL;
+    *len = 0;
+    if (fstat(file, &info) < 0)
+        return CMCACHE_DEVICE;
+    if (info.st_size > MOST_BYTES)
+        return CMCORE_TOO_LONG;
+    if (info.st_size == 0) /* can't be mapped */
+        return CMCORE_OK;
+    void *at = mmap(NULL, (size_t)info.st_size, PROT_READ, MAP_SHARED, file, 0);
+    if (at == MAP_FAILED)
+        return errno == ENOMEM ? CMCORE_NO_MEMORY : CMCACHE_DEVICE;
+    *bytes = at;
+    *len = (size_t)info.st_size;
     return CMCORE_OK;
+}
+
+void cmfile_unmap(const uint8_t *bytes, size_t len)
+{
+    if (bytes != NULL)
+        munmap((void *)(uintptr_t)bytes, len);
 }
 
 /* cmcore_open, cmcore_upgrade */
 typedef int32_t reader(const uint8_t *bytes, size_t len, cmcore_handle *to,
                        cmcore_damage *damage);
 
-/* Makes the file's bytes durable, and has the core read them. */
+/* Has the core read the file's bytes. */
 static int32_t read_file(int file, reader *read_bytes, cmcore_handle *to, cmcore_damage *damage)
 {
-    struct stat info;
-    if (fdatasync(file) < 0 || fstat(file, &info) < 0)
-        return CMCACHE_DEVICE;
-    if (info.st_size > MOST_BYTES)
-        return CMCORE_TOO_LONG;
-    size_t len = (size_t)info.st_size;
-    if (len == 0) /* can't be mapped */
-        return read_bytes(NULL, 0, to, damage);
-    void *bytes = mmap(NULL, len, PROT_READ, MAP_SHARED, file, 0);
-    if (bytes == MAP_FAILED)
-        return errno == ENOMEM ? CMCORE_NO_MEMORY : CMCACHE_DEVICE;
-    int32_t status = read_bytes(bytes, len, to, damage);
-    munmap(bytes, len);
+    const uint8_t *bytes;
+    size_t len;
+    int32_t status = cmfile_map(file, &bytes, &len);
+    if (status == CMCORE_OK)
+        status = read_bytes(bytes, len, to, damage);
+    cmfile_unmap(bytes, len);
     return status;
+}
+
+/* What is read is durable first, since a cache in which something is stored goes on from there. */
+static int32_t read_durable(int file, reader *read_bytes, cmcore_handle *to, cmcore_damage *damage)
+{
+    return fdatasync(file) < 0 ? CMCACHE_DEVICE : read_file(file, read_bytes, to, damage);
 }
 
 static int32_t upgrade(int file, cmcore_damage *damage)
 {
     cmcore_handle calls = {0};
-    int32_t status = read_file(file, cmcore_upgrade, &calls, damage);
+    int32_t status = read_durable(file, cmcore_upgrade, &calls, damage);
     if (status == CMCORE_OK && !make_all(file, &calls))
         status = CMCACHE_DEVICE;
     cmcore_release(&calls);
     return status;
 }
 
+int32_t cmfile_read_cache(int file, cmcore_handle *cache, cmcore_damage *damage)
+{
+    return read_file(file, cmcore_open, cache, damage);
+}
+
 int32_t cmfile_open_cache(int file, cmcore_handle *cache, cmcore_damage *damage)
 {
-    int32_t status = read_file(file, cmcore_open, cache, damage);
+    int32_t status = read_durable(file, cmcore_open, cache, damage);
     if (status != CMCORE_OLDER)
         return status;
     status = upgrade(file, damage);
-    return status == CMCORE_OK ? read_file(file, cmcore_open, cache, damage) : status;
+    return status == CMCORE_OK ? read_durable(file, cmcore_open, cache, damage) : status;
 }

@@ -15,6 +15,9 @@ import harness
 import oracle
 
 TOP = Path(__file__).resolve().parent.parent
+# Crates with structs that the exports of cm_core pass on, and the lengths of arrays in them.
+CRATES = "cm_core", "cm_view_index", "cm_plain_view"
+LENGTHS = {"NAME_LIMIT": oracle.NAME_LIMIT}
 NUMBERS = {"bool": "bool", **{f"u{bits}": f"uint{bits}_t" for bits in (8, 16, 32, 64)},
            "i32": "int32_t", "usize": "size_t"}
 
@@ -39,9 +42,10 @@ def split(text):
 # ---- the header
 
 def declared_as(text):
-    """The type and the name of a member or a parameter: `const uint8_t *bytes`."""
-    kind, name = re.fullmatch(r"(.*?)(\w+)", " ".join(text.split())).groups()
-    return kind.replace(" ", ""), name
+    """The type and the name of a member or a parameter: `const uint8_t *bytes`, `uint8_t name[96]`,
+    whose type is `uint8_t[96]`."""
+    kind, name, size = re.fullmatch(r"(.*?)(\w+)(\[\d+\])?", " ".join(text.split())).groups()
+    return kind.replace(" ", "") + (size or ""), name
 
 
 def header():
@@ -61,11 +65,15 @@ def types_in_c(spelled):
     """The C types that stand for a type: a slice has two, and the allocator none. A struct keeps
     its name."""
     spelled = re.sub(r"'\w+ ", "", spelled).strip()
-    slice_of = re.fullmatch(r"&\[(\w+)\]", spelled)
+    slice_of = re.fullmatch(r"&(mut )?\[(\w+)\]", spelled)
+    array_of = re.fullmatch(r"\[(\w+); (\w+)\]", spelled)
     if spelled == "Global":
         return []
     if slice_of:
-        return [f"const{NUMBERS[slice_of[1]]}*", "size_t"]
+        const = "" if slice_of[1] else "const"
+        return [f"{const}{NUMBERS.get(slice_of[2], slice_of[2])}*", "size_t"]
+    if array_of:
+        return [f"{NUMBERS[array_of[1]]}[{LENGTHS.get(array_of[2], array_of[2])}]"]
     pointer = re.fullmatch(r"(&mut |\*mut |&|\*const )(.*)", spelled)
     if pointer:
         const = "" if "mut" in pointer[1] else "const"
@@ -76,7 +84,8 @@ def types_in_c(spelled):
 def sources():
     """The same of the exported functions and `repr(C)` structs of the crate."""
     functions, structs = {}, {}
-    for path in (TOP / "crates/cm_core/src").glob("**/*.rt"):
+    for path in (path for crate in CRATES
+                 for path in (TOP / f"crates/{crate}/src").glob("**/*.rt")):
         text = without_comments(path.read_text(), r"//[^\n]*")
         for name, rest in re.findall(r'extern "C" fn (\w+)(?:<[^>]*>)?\((.*?)\)\s*->', text, re.S):
             functions[name] = [each for part in split(rest)

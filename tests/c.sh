@@ -53,7 +53,7 @@ passes "c/cmcore.h is the interface of the library" python3 tests/c.py header "$
 
 for compiler in gcc clang; do
     has $compiler "a build by it" || continue
-    for source in tests/c/*.c bench/c_calls.c examples/c/*.c; do
+    for source in tests/c/*.c bench/c_calls.c bench/view_calls.c examples/c/*.c; do
         build "$compiler.$(basename "$source" .c)" "$source" $compiler -O2
     done
 done
@@ -69,17 +69,21 @@ every_call() {
     passes "every call: $1" "${@:2}" "$quick/$1"
     rm -r "${quick:?}/$1"
 }
-build every_call tests/c/every_call.c "$cc" -O1
-every_call plain "$work/every_call"
-build address tests/c/every_call.c "$cc" -O1 -fsanitize=address,undefined -fno-sanitize-recover
-every_call address "$work/address"
-build thread tests/c/every_call.c "$cc" -O1 -fsanitize=thread
-every_call thread "$work/thread"
-if has valgrind "every call under it"; then
-    every_call memcheck valgrind -q --error-exitcode=9 --leak-check=full "$work/every_call"
-    every_call helgrind valgrind -q --error-exitcode=9 --tool=helgrind \
-        --suppressions=tests/c/helgrind.supp "$work/every_call"
-fi
+for program in every_call open_and_list; do
+    build $program tests/c/$program.c "$cc" -O1
+    every_call $program "$work/$program"
+    build address tests/c/$program.c "$cc" -O1 -fsanitize=address,undefined \
+        -fno-sanitize-recover
+    every_call $program-address "$work/address"
+    build thread tests/c/$program.c "$cc" -O1 -fsanitize=thread
+    every_call $program-thread "$work/thread"
+    if has valgrind "every call under it"; then
+        every_call $program-memcheck valgrind -q --error-exitcode=9 --leak-check=full \
+            "$work/$program"
+        every_call $program-helgrind valgrind -q --error-exitcode=9 --tool=helgrind \
+            --suppressions=tests/c/helgrind.supp "$work/$program"
+    fi
+done
 
 library=$(compile_library calls)
 check_last "tests/calls.c is compiled"

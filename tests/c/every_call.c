@@ -149,7 +149,7 @@ static void makes_files(void)
     static const uint32_t least[] = {3, 1, 256}, most[] = {12, 256, 65536};
     EXPECT(CMCORE_OK, cmcache_format(path_of("least"), least[0], least[1], least[2]));
     EXPECT(CMCORE_OK, cmcache_format(path_of("most"), most[0], most[1], most[2]));
-    EXPECT(CMCACHE_DEVICE, cmcache_format(path_of("none/none"), 8, 64, 4096));
+    EXPECT(CMCACHE_NO_FILE, cmcache_format(path_of("none/none"), 8, 64, 4096));
     EXPECT(ENOENT, errno);
 }
 
@@ -157,7 +157,7 @@ static void refuses_files(void)
 {
     cmcache *cache = NULL;
     cmcore_damage damage = {7, 7};
-    EXPECT(CMCACHE_DEVICE, cmcache_open(path_of("none"), &cache, &damage));
+    EXPECT(CMCACHE_NO_FILE, cmcache_open(path_of("none"), &cache, &damage));
     EXPECT(ENOENT, errno);
     EXPECT(CMCACHE_NOT_REGULAR, cmcache_open(folder, &cache, &damage));
     EXPECT(CMCACHE_NOT_REGULAR, cmcache_open("/dev/null", &cache, &damage));
@@ -230,8 +230,16 @@ static void prepares_classes(void)
     CHECK(bad.kind == CMCORE_TRAILING && bad.at == sizeof class_a);
     bytes[7] = 0x35;
     EXPECT(CMCORE_BAD_CLASS, cmcache_prepare(bytes, sizeof class_a, &prepared, &bad));
-    CHECK(bad.kind == CMCORE_MALFORMED && bad.at == 7);
-    bytes[7] = 0x34;
+    CHECK(bad.kind == CMCORE_OTHER_VERSION && bad.at == 0x350000);
+    bytes[5] = 3;
+    EXPECT(CMCORE_BAD_CLASS, cmcache_prepare(bytes, 8, &prepared, &bad));
+    CHECK(bad.kind == CMCORE_OTHER_VERSION && bad.at == 0x350003);
+    EXPECT(CMCORE_BAD_CLASS, cmcache_prepare(bytes, 7, &prepared, &bad));
+    CHECK(bad.kind == CMCORE_MALFORMED && bad.at == 5);
+    bytes[3] = 0;
+    EXPECT(CMCORE_BAD_CLASS, cmcache_prepare(bytes, sizeof class_a, &prepared, &bad));
+    CHECK(bad.kind == CMCORE_MALFORMED && bad.at == 3);
+    memcpy(bytes, class_a, 8);
     bytes[12] = 3; /* the Class of `this` names another Class */
     EXPECT(CMCORE_BAD_CLASS, cmcache_prepare(bytes, sizeof class_a, &prepared, &bad));
     CHECK(bad.kind == CMCORE_RULE && bad.rule == 2 && bad.spot == CMCORE_SPOT_POOL && bad.at == 1);
@@ -329,6 +337,7 @@ static void takes_commands(void)
     EXPECT(CMCORE_OK, cmcache_stats(cache, &stats));
     CHECK(stats.accepted == 4 && stats.stored == 4);
     CHECK(stats.top == 8 && stats.roots == 64 && stats.slots == 4096);
+    CHECK(stats.live == 4 && stats.live_slots == 4);
     EXPECT(CMCORE_NO_LOADER, cmcache_unload(cache, TEXT("lib"), &number));
     EXPECT(CMCORE_OK, cmcache_unload(cache, TEXT("app"), &number));
     CHECK(number == 5 && is_record_a(&record));
@@ -629,7 +638,8 @@ static void fails_for_threads(void)
 static void names_statuses(void)
 {
     static const int32_t all[] = {0,  1,  2,  3,  4,  5,  6,  7,  8,  9,  10, 11, 12, 13,
-                                  14, 16, 20, 21, 22, 23, 24, 25, 26, 40, 41, 42, 43};
+                                  14, 16, 20, 21, 22, 23, 24, 25, 26, 27, 28, 40, 41, 42,
+                                  43, 44, 45, 46};
     for (size_t at = 0; at < sizeof all / sizeof *all; at++) {
         CHECK(strcmp(cmcache_status_text(all[at]), cmcache_status_text(-1)) != 0);
         for (size_t earlier = 0; earlier < at; earlier++)

@@ -1,9 +1,10 @@
 -- What is asked of a cache for C, and what C is told.
 use Rattle.std.specs.Prelude.{◌≡◌, ℕ, ℤ, pos, Bool, true, false, List, Option, Some, None}
-use Rattle.std.specs.Prelude.{Result, Ok, Err, IsSome, IsNone, ◌+◌}
+use Rattle.std.specs.Prelude.{Result, Ok, Err, IsSome, IsNone, ◌+◌, length}
 use Rattle.std.specs.Arc.{arc_value}
 use Rattle.cm_disk.specs.declared.disk.DeviceFault.{DeviceFault}
 use Rattle.cm_device_disk.specs.DeviceDisk.{disk_view, IsDeviceCall}
+use Rattle.cm_layout.specs.Rows.{slots_of_rows}
 use Rattle.cm_deferred_disk.specs.Last.{Notes}
 use Rattle.cm_state.specs.Step.{Change}
 use Rattle.cm_commands.specs.Machine.{Machine}
@@ -20,7 +21,7 @@ use Rattle.cm_stepped.specs.CallList.{next_call}
 use Rattle.cm_stepped.specs.Stepping.{SteppedMatches, Steps}
 use Rattle.cm_core.specs.declared.cache.Stats.{Stats}
 use Rattle.cm_core.specs.declared.inner.Inner.{Inner}
-use Rattle.cm_core.specs.declared.inner.Inner.TheVariants.{Cache, Calls, Prepared, Record}
+use Rattle.cm_core.specs.declared.inner.Inner.TheVariants.{Cache, Calls, Prepared, Record, Names}
 use Rattle.cm_core.specs.Calls.{DeferredDisk}
 use Rattle.cm_core.specs.Status.{accept_status, number_told, step_status, stored_told}
 
@@ -46,6 +47,8 @@ Changes asked (Prepared ready) new status before after =
     (new ≡ Prepared ready) × (status ≡ pos 25) × (after ≡ before)
 Changes asked (Record share) new status before after =
     (new ≡ Record share) × (status ≡ pos 25) × (after ≡ before)
+Changes asked (Names names) new status before after =
+    (new ≡ Names names) × (status ≡ pos 25) × (after ≡ before)
 
 -- ---- a step
 
@@ -78,6 +81,8 @@ StepsInner made (Prepared ready) new status before after =
     (new ≡ Prepared ready) × (status ≡ pos 25) × (after ≡ before)
 StepsInner made (Record share) new status before after =
     (new ≡ Record share) × (status ≡ pos 25) × (after ≡ before)
+StepsInner made (Names names) new status before after =
+    (new ≡ Names names) × (status ≡ pos 25) × (after ≡ before)
 
 -- ---- shares
 
@@ -86,6 +91,7 @@ class_in (Cache cache) = None
 class_in (Calls calls) = None
 class_in (Prepared ready) = Some ready
 class_in (Record share) = None
+class_in (Names names) = None
 
 -- the words of the record
 abbrev pub record_in : Inner → Option (List ℕ)
@@ -93,6 +99,7 @@ record_in (Cache cache) = None
 record_in (Calls calls) = None
 record_in (Prepared ready) = None
 record_in (Record share) = Some (arc_value share)
+record_in (Names names) = None
 
 -- what a handle leads to isn't shared: for want of memory, or since it is something else
 abbrev pub unshared : {T : Type 0} → Option T → ℤ
@@ -125,6 +132,7 @@ LooksIn (Cache cache) loader class given = LooksUp cache loader class given
 LooksIn (Calls calls) loader class given = given ≡ Err (pos 25)
 LooksIn (Prepared ready) loader class given = given ≡ Err (pos 25)
 LooksIn (Record share) loader class given = given ≡ Err (pos 25)
+LooksIn (Names names) loader class given = given ≡ Err (pos 25)
 
 -- ---- statistics
 
@@ -135,6 +143,8 @@ stats_of cache = record {
   top = cache.session.committer.sizes.top;
   roots = cache.session.committer.sizes.roots;
   slots = cache.session.committer.sizes.slots;
+  live = length cache.session.front.rows;
+  live_slots = slots_of_rows cache.session.front.rows;
 }
 
 abbrev pub TellsStats : Inner → ℤ → Stats → Stats → Type 0
@@ -142,3 +152,4 @@ TellsStats (Cache cache) status old new = (status ≡ pos 0) × (new ≡ stats_o
 TellsStats (Calls calls) status old new = (status ≡ pos 25) × (new ≡ old)
 TellsStats (Prepared ready) status old new = (status ≡ pos 25) × (new ≡ old)
 TellsStats (Record share) status old new = (status ≡ pos 25) × (new ≡ old)
+TellsStats (Names names) status old new = (status ≡ pos 25) × (new ≡ old)

@@ -13,7 +13,7 @@ use Rattle.cm_stepped.specs.declared.step.Broken.{Broken}
 use Rattle.cm_stepped.specs.CallList.{next_call}
 use Rattle.cm_core.specs.declared.calls.NextCall.{NextCall}
 use Rattle.cm_core.specs.declared.inner.Inner.{Inner}
-use Rattle.cm_core.specs.declared.inner.Inner.TheVariants.{Cache, Calls, Prepared, Record}
+use Rattle.cm_core.specs.declared.inner.Inner.TheVariants.{Cache, Calls, Prepared, Record, Names}
 
 abbrev pub DeferredDisk : Type 0
 DeferredDisk = DeviceDisk LastCall DeviceFault
@@ -69,3 +69,4 @@ ShowsNext (Cache cache) status old new = (status ≡ pos 0) × Shows (asked_by c
 ShowsNext (Calls calls) status old new = (status ≡ pos 0) × Shows (next_call calls) new
 ShowsNext (Prepared ready) status old new = (status ≡ pos 25) × (new ≡ old)
 ShowsNext (Record share) status old new = (status ≡ pos 25) × (new ≡ old)
+ShowsNext (Names names) status old new = (status ≡ pos 25) × (new ≡ old)

@@ -1,5 +1,6 @@
 -- A class that isn't taken, and a record's constants, members and code, in C's numbers.
-use Rattle.std.specs.Prelude.{◌≡◌, ℕ, ℤ, pos, Bool, Option, Some, None}
+use Rattle.std.specs.Prelude.{◌≡◌, ℕ, ◌+◌, ◌*◌, ℤ, pos, Bool, ◌||◌, if◌then◌else◌, nat_lt}
+use Rattle.std.specs.Prelude.{List, length, slice_index, Option, Some, None}
 use Rattle.cm_class.specs.declared.constant.Constant.{Constant}
 use Rattle.cm_class.specs.declared.constant.Constant.TheVariants as constant
 use Rattle.cm_rules.specs.declared.rule.Spot.{Spot}
@@ -37,11 +38,33 @@ spot_index (spot.Field at) = at
 spot_index (spot.Method at) = at
 spot_index (spot.Attribute at) = at
 
-abbrev pub explained : BadClass → BadClassForC
-explained bad.Truncated = record { kind = 1; rule = 0; spot = 0; at = 0 }
-explained (bad.Trailing at) = record { kind = 2; rule = 0; spot = 0; at = at }
-explained (bad.Malformed at) = record { kind = 3; rule = 0; spot = 0; at = at }
-explained (bad.Rule broken) = record {
+-- The major number times 65,536, plus the minor one, of bytes that begin as a class file of another
+-- version: those of version 52.0 differ from them at this byte first.
+abbrev pub other_version_of : List ℕ → ℕ → Option ℕ
+other_version_of bytes at =
+    if nat_lt at 4 || nat_lt 7 at || nat_lt (length bytes) 8 then None
+    else Some (65536 * (256 * slice_index bytes 6 + slice_index bytes 7)
+    + (256 * slice_index bytes 4 + slice_index bytes 5))
+
+abbrev pub malformed_kind : Option ℕ → ℕ
+malformed_kind None = 3
+malformed_kind (Some version) = 5
+
+-- the byte, or the version
+abbrev pub malformed_at : ℕ → Option ℕ → ℕ
+malformed_at at None = at
+malformed_at at (Some version) = version
+
+abbrev pub explained : List ℕ → BadClass → BadClassForC
+explained bytes bad.Truncated = record { kind = 1; rule = 0; spot = 0; at = 0 }
+explained bytes (bad.Trailing at) = record { kind = 2; rule = 0; spot = 0; at = at }
+explained bytes (bad.Malformed at) = record {
+  kind = malformed_kind (other_version_of bytes at);
+  rule = 0;
+  spot = 0;
+  at = malformed_at at (other_version_of bytes at);
+}
+explained bytes (bad.Rule broken) = record {
   kind = 4;
   rule = number broken.rule;
   spot = spot_kind broken.spot;
@@ -49,10 +72,10 @@ explained (bad.Rule broken) = record {
 }
 
 -- a fault of the class is told; anything else leaves what was there
-abbrev pub fault_told : BadClassForC → PrepareFault → BadClassForC
-fault_told before (unprepared.BadClass bad) = explained bad
-fault_told before unprepared.RecordTooLong = before
-fault_told before unprepared.NoMemory = before
+abbrev pub fault_told : List ℕ → BadClassForC → PrepareFault → BadClassForC
+fault_told bytes before (unprepared.BadClass bad) = explained bytes bad
+fault_told bytes before unprepared.RecordTooLong = before
+fault_told bytes before unprepared.NoMemory = before
 
 -- ---- a constant
 

@@ -5,3 +5,6 @@ pub mod Class
 pub mod Cache
 pub mod Damage
 pub mod Handles
+pub mod Views
+pub mod Comparing
+pub mod Listing

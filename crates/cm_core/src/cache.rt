@@ -133,8 +133,8 @@ fn share_class(inner: &Inner) -> Result<Prepared, i32>
     }
 }
 
-// A share of the class that a handle leads to.
-fn share(alloc: Global, handle: &mut Handle) -> Result<Prepared, i32>
+/// A share of the class that a handle leads to.
+pub(crate) fn share(alloc: Global, handle: &mut Handle) -> Result<Prepared, i32>
     ensures full { handle.new.full ≡ handle.old.full }
     ensures refused { handle.old.full ≡ false → result ≡ Err (pos 25) }
 {
@@ -222,6 +222,10 @@ pub struct Stats {
     pub top: u32,
     pub roots: u32,
     pub slots: u32,
+    /// How many loaders and classes live.
+    pub live: usize,
+    /// How many slots they take of a half of the journal; half of them is the limit.
+    pub live_slots: usize,
 }
 
 // What a cache says of itself.
@@ -234,6 +238,8 @@ fn tell(session: &SteppedSession<DeferredDisk>, stats: &mut Stats)
     stats.top = geometry.top();
     stats.roots = geometry.roots();
     stats.slots = geometry.slots();
+    stats.live = session.rows().len();
+    stats.live_slots = session.rows().slots();
 }
 
 // What this says of itself, if it is a cache.

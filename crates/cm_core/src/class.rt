@@ -4,6 +4,7 @@ ghost use Rattle.std.specs.Prelude.{◌≡◌, pos};
 ghost use Rattle.cm_commands.specs.Prepare.{refusal_for};
 ghost use Rattle.cm_commands.specs.Refusals.{refusal_number};
 ghost use Rattle.cm_core.specs.Class.{explained, fault_told, spot_kind, spot_index};
+ghost use Rattle.cm_core.specs.Class.{other_version_of, malformed_kind, malformed_at};
 
 use crate::handle::Handle;
 use crate::inner::Inner;
@@ -15,13 +16,13 @@ use std::alloc::Global;
 /// Why bytes are no class that keeps the rules.
 #[repr(C)]
 pub struct BadClassForC {
-    /// 1 truncated, 2 trailing, 3 malformed, 4 a rule.
+    /// 1 truncated, 2 trailing, 3 malformed, 4 a rule, 5 another version.
     pub kind: u32,
     /// The rule's number.
     pub rule: u32,
     /// 1 pool, 2 this, 3 super, 4 interface, 5 field, 6 method, 7 attribute.
     pub spot: u32,
-    /// Trailing and malformed: a byte. A rule: the index at the spot.
+    /// Trailing and malformed: a byte. A rule: the index at the spot. Another version: its numbers.
     pub at: u64,
 }
 
@@ -40,14 +41,41 @@ fn spot_numbers(spot: Spot) -> (u32, u16)
     }
 }
 
+// The version of a class file whose bytes differ from those of version 52.0 at this byte first: its
+// major number times 65,536, plus its minor one.
+fn other_version(bytes: &[u8], at: usize) -> Option<u64>
+    ensures { result ≡ other_version_of bytes.now at }
+{
+    if at < 4 || at > 7 || bytes.len() < 8 {
+        return None;
+    }
+    let minor = 256 * u64::from(bytes[4]) + u64::from(bytes[5]);
+    let major = 256 * u64::from(bytes[6]) + u64::from(bytes[7]);
+    Some(65_536 * major + minor)
+}
+
+// The kind of malformed bytes, and the byte or the version.
+fn malformed_numbers(bytes: &[u8], at: usize) -> (u32, u64)
+    ensures { (result.0 ≡ malformed_kind (other_version_of bytes.now at))
+        × (result.1 ≡ malformed_at at (other_version_of bytes.now at)) }
+{
+    match other_version(bytes, at) {
+        Some(version) => (5, version),
+        None => (3, at as u64),
+    }
+}
+
 // Says why a class isn't taken.
-fn explain(bad: &BadClass, told: &mut BadClassForC)
-    ensures { told.new ≡ explained bad.now }
+fn explain(bytes: &[u8], bad: &BadClass, told: &mut BadClassForC)
+    ensures { told.new ≡ explained bytes.now bad.now }
 {
     let (kind, rule, spot, at) = match *bad {
         BadClass::Truncated => (1, 0, 0, 0),
         BadClass::Trailing(at) => (2, 0, 0, at as u64),
-        BadClass::Malformed(at) => (3, 0, 0, at as u64),
+        BadClass::Malformed(at) => {
+            let (kind, at) = malformed_numbers(bytes, at);
+            (kind, 0, 0, at)
+        }
         BadClass::Rule(broken) => {
             let (spot, index) = spot_numbers(broken.spot);
             (4, u32::from(broken.rule.number()), spot, u64::from(index))
@@ -60,12 +88,12 @@ fn explain(bad: &BadClass, told: &mut BadClassForC)
 }
 
 // The number for bytes that aren't prepared as a class.
-fn of_prepare_fault(fault: PrepareFault, bad: &mut BadClassForC) -> i32
+fn of_prepare_fault(bytes: &[u8], fault: PrepareFault, bad: &mut BadClassForC) -> i32
     ensures status { result ≡ pos (refusal_number (refusal_for fault)) }
-    ensures bad { bad.new ≡ fault_told bad.old fault }
+    ensures bad { bad.new ≡ fault_told bytes.now bad.old fault }
 {
     if let PrepareFault::BadClass(what) = &fault {
-        explain(what, bad);
+        explain(bytes, what, bad);
     }
     of_refusal(&Refusal::from(fault))
 }
@@ -80,6 +108,6 @@ pub extern "C" fn cmcore_prepare(
 ) -> i32 {
     match prepare(alloc, bytes) {
         Ok(class) => prepared.fill(alloc, Inner::Prepared(class)),
-        Err(fault) => of_prepare_fault(fault, bad),
+        Err(fault) => of_prepare_fault(bytes, fault, bad),
     }
 }

@@ -18,4 +18,6 @@ pub enum Inner {
     Prepared(Prepared),
     /// A share of the record of a class.
     Record(Arc<Record, Global>),
+    /// Names of loaders, or of classes.
+    Names(Vec<Vec<u8>>),
 }

@@ -5,11 +5,14 @@
 mod cache;
 mod calls;
 mod class;
+mod comparing;
 mod handle;
 mod inner;
+mod listing;
 mod loose;
 mod places;
 mod record;
 mod status;
+mod views;
 
 pub use handle::Handle;

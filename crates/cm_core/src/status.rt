@@ -12,6 +12,9 @@ use cm_verdict::{FileFault, OpenFault};
 /// It is done.
 pub const OK: i32 = 0;
 
+/// No loader has this name.
+pub const NO_LOADER: i32 = 3;
+
 /// An allocation failed.
 pub const NO_MEMORY: i32 = 9;
 
@@ -38,6 +41,12 @@ pub const EMPTY: i32 = 25;
 
 /// The bytes are longer than a file may be.
 pub const TOO_LONG: i32 = 26;
+
+/// There is more than the caller has room for.
+pub const NO_ROOM: i32 = 27;
+
+/// Another class has this name.
+pub const OTHER: i32 = 28;
 
 /// The first damage of a file: its number, and the slot where it was found.
 #[repr(C)]
