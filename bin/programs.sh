@@ -14,15 +14,24 @@ sources_hash() {
     )
 }
 
+# java_sources_hash: one number for what the jar is made from, apart from the core.
+java_sources_hash() {
+    (
+        cd "$repository" || exit
+        find java c bin/build_java bin/jar_of -type f -print0 |
+            LC_ALL=C sort -z | xargs -0 sha256sum | sha256sum | cut -c 1-40
+    )
+}
+
 # released WORD: what a line of the release's list says after this word.
 released() {
     sed -n "s/^$1 //p" "$repository/release/list.txt" 2>/dev/null
 }
 
 # released_programs: the names of the programs of the release, which stand after its first three
-# lines.
+# lines, apart from the jar.
 released_programs() {
-    sed '1,3d; s/ .*//' "$repository/release/list.txt"
+    sed '1,3d; s/ .*//; /\.jar$/d' "$repository/release/list.txt"
 }
 
 # other_release LIST: prints the commits in the history whose release has the version of this list

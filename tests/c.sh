@@ -8,8 +8,7 @@
 # KILLS=N kills N times instead of 50, MOMENTS=N stops the machine at N moments instead of 50,
 # SCRIPTS=N runs N random scripts instead of 200, SEED=N takes others. CM_CORE names another archive
 # than the one that was built here, or that of the release. Needs a C compiler and Python 3; what
-# else isn't installed is left out: Valgrind, a second compiler, rustc, and a JDK with the module
-# jdk.incubator.foreign.
+# else isn't installed is left out: Valgrind, a second compiler, rustc, and a JDK 22 or later.
 
 # Each sweep counts in a subshell of its own, with a folder of its own.
 # shellcheck disable=SC2030,SC2031
@@ -167,12 +166,17 @@ if has javac "the examples" && mkdir "$work/classes" && javac --release 8 -Xlint
             -L native="$work/c" -l static=cmcache
         prints Rust "$work/define_rust"
     fi
-    foreign=(--add-modules jdk.incubator.foreign)
-    if javac "${foreign[@]}" -nowarn -d "$work/java" examples/java/*.java 2>"$work/errors"; then
-        prints Java java "${foreign[@]}" --enable-native-access=ALL-UNNAMED -cp "$work/java" \
+    # The newest JDK of the machine, for an interface that is final since Java 22.
+    newest=$(find /usr/lib/jvm -path '*/bin/javac' 2>/dev/null | while read -r each; do
+        echo "$("$each" --version | grep -oE '[0-9]+' | head -n 1) ${each%/javac}"
+    done | sort -n | tail -n 1)
+    if [ "${newest%% *}" -ge 22 ] 2>/dev/null; then
+        "${newest#* }/javac" -nowarn -d "$work/java" examples/java/Define.java 2>"$work/errors"
+        check_last "the example in Java is compiled"
+        prints Java "${newest#* }/java" --enable-native-access=ALL-UNNAMED -cp "$work/java" \
             Define "$work/c/libcmcache.so"
     else
-        echo "there is no module jdk.incubator.foreign of Java 17: the example in Java is left out"
+        echo "there is no JDK 22 or later: the example in Java is left out"
     fi
 fi
 

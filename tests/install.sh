@@ -1,6 +1,7 @@
 #!/usr/bin/env bash
 # What bin/install puts below a prefix works without the checkout: the programs, a C program that is
-# linked by cmcache.pc, and the manual pages. Needs a C compiler.
+# linked by cmcache.pc, a Java program by the jar, and the manual pages. Needs a C compiler and a
+# JDK.
 set -u
 cd "$(dirname "$0")/.." || exit 1
 . tests/lib.sh
@@ -62,6 +63,16 @@ if command -v pkg-config >/dev/null; then
     [ "$(pkg-config --modversion cmcache)" = "$(released version)" ]
     check_last "the version of cmcache.pc"
 fi
+
+cp examples/java/Scan.java "$work"
+alone java -cp "$to/share/java/cmcache.jar" Scan.java h app "$PWD/examples/first.jar"
+check_status "the installed jar" 0
+grep -q ' classes, [1-9][0-9]* of them stored' "$work/errors"
+check_last "stores classes"
+alone java -cp "$to/share/java/cmcache.jar" Scan.java h app "$PWD/examples/first.jar"
+check_status "a second start by the jar" 0
+grep -q ' classes, 0 of them stored' "$work/errors"
+check_last "stores none"
 
 for page in "$to"/share/man/man1/*.1; do
     grep -q "^.TH .* \"cmcache $(released version)\"$" "$page"

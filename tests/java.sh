@@ -1,10 +1,11 @@
 #!/usr/bin/env bash
 # The Java library (docs/JAVA.md), by the jar that bin/build_java makes: each call with each
 # refusal, also with -Xcheck:jni, and with its C file under the address and undefined-behaviour
-# sanitizers; sixteen threads, caches that are closed meanwhile, little stack; a device that fails;
-# first starts that are killed, and two JVMs; records of a compiler's and of real jars' classes,
-# line by line beside ASM; CachingClassLoader beside URLClassLoader; and programs that do the same
-# with the agent as without. Then much of it by each other JDK that is installed.
+# sanitizers; sixteen threads, caches that are closed meanwhile, little stack; a device that fails,
+# and each allocation refused; first starts that are killed, and two JVMs; records of a compiler's
+# and of real jars' classes, line by line beside ASM; CachingClassLoader beside URLClassLoader;
+# the example, and programs that do the same with the agent as without. Then much of it by each
+# other JDK that is installed.
 #
 # KILLS=N kills N times instead of 10, SEED=N at other moments. Needs JDK 17 or Debian's
 # libasm-java, a C compiler with sanitizers and Python 3; of ant, Maven and Groovy it uses what is
@@ -129,6 +130,46 @@ for test in EveryCall Threads; do
     counted "$test with sanitizers" sanitized "$jdk/bin/java" \
         -Dcmcache.library="$work/sanitized.so" -cp "$jar:$work/tests" $test "$quick/folder"
 done
+
+# The same with one allocation refused after another.
+refusing=(-Dmalloc=refusing_malloc -Dcalloc=refusing_calloc -Drealloc=refusing_realloc)
+mkdir "$work/objects"
+for source in java/jni.c c/*.c; do
+    "${CC:-cc}" -std=c11 -O1 -fPIC -fvisibility=hidden "${refusing[@]}" -Ic -I"$jdk/include" \
+        -I"$jdk/include/linux" -c "$source" -o "$work/objects/$(basename "$source" .c).o"
+done
+"${CC:-cc}" -shared -std=c11 -fPIC -Wall -Wextra -Werror -I"$jdk/include" -I"$jdk/include/linux" \
+    -Wl,--version-script,java/exports.map -o "$work/refusing.so" "$work"/objects/*.o \
+    tests/java/refusing.c "$(find_core)" -lpthread
+check_last "the library that refuses memory"
+options=(-Dcmcache.library="$work/refusing.so")
+library "refused allocations" Refusals
+
+# ---- the example, beside the one by ASM
+
+scan() {
+    "$jdk/bin/java" -cp "$jar:$work/examples" Scan "$quick/scan" jars-1 "${jars[@]}" \
+        examples/first.jar >"$work/got" 2>"$work/errors"
+    status=$?
+}
+javac -nowarn -cp "$jar" -d "$work/examples" examples/java/Scan.java
+check_last "the example is compiled"
+scan
+check_status "the example's first run" 0
+cp "$work/got" "$work/want"
+grep -qE '^[0-9]+ classes, [1-9][0-9]* of them stored, in [0-9]+ ms$' "$work/errors"
+check_last "which stores classes"
+scan
+check "the example's second run" 0
+grep -qE '^[1-9][0-9]* classes, 0 of them stored, in [0-9]+ ms$' "$work/errors"
+check_last "which stores none"
+if javac -nowarn -cp "$asm" -d "$work/examples" examples/java/ScanByAsm.java 2>"$work/errors"; then
+    "$jdk/bin/java" -cp "$asm:$work/examples" ScanByAsm "${jars[@]}" examples/first.jar \
+        >"$work/want" 2>"$work/errors"
+    check "the example by ASM prints the same" 0
+else
+    echo "libasm-java isn't installed: the example by ASM is left out"
+fi
 
 # ---- the agent
 

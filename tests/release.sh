@@ -21,6 +21,29 @@ while read -r name; do
     check_last "the checksum of $name"
 done <"$work/want"
 
+# The jar, if the release has one: its checksum, and the same bytes from the same sources by the
+# same compilers.
+jar=release/cmcache.jar
+if [ -z "$(released cmcache.jar)" ]; then
+    echo "the release has no jar yet: bin/release makes one"
+else
+    [ "$(sha256sum <"$jar")" = "$(released cmcache.jar)  -" ]
+    check_last "the checksum of the jar"
+    made=$work/java/cmcache.jar
+    CM_CORE=$work/release/libcm_core.a bin/build_java "$work/java" --jar >"$work/log" 2>&1
+    check_last "bin/build_java"
+    if python3 - "$jar" "$made" <<'END'; then
+import sys, zipfile
+texts = [zipfile.ZipFile(path).read("META-INF/MANIFEST.MF") for path in sys.argv[1:]]
+sys.exit(texts[0] != texts[1])
+END
+        cmp "$jar" "$made"
+        check_last "the bytes of the jar"
+    else
+        echo "not compared with what is built here: the jar is of other sources or compilers"
+    fi
+fi
+
 # The version.
 version=$(released version)
 [ "$(sed -n 's/^## //p' CHANGELOG.md | head -n 1 | cut -d ' ' -f 1)" = "$version" ]

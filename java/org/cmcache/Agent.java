@@ -94,7 +94,7 @@ public final class Agent implements ClassFileTransformer {
     }
 
     private Outcome store(String name, byte[] file) {
-        if (!isOfVersion52(file)) {
+        if (!ClassCache.isOfVersion52(file)) {
             return Outcome.OTHER_VERSION;
         }
         Optional<ClassRecord> found = cache.find(loader, name);
@@ -109,10 +109,6 @@ public final class Agent implements ClassFileTransformer {
             return e.status() == CacheException.Status.CLASS_EXISTS ? Outcome.THERE
                     : Outcome.REFUSED;
         }
-    }
-
-    private static boolean isOfVersion52(byte[] file) {
-        return file.length >= 8 && (file[4] | file[5] | file[6]) == 0 && file[7] == 52;
     }
 
     private void finish() {

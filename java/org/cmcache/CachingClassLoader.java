@@ -81,14 +81,14 @@ public class CachingClassLoader extends URLClassLoader {
     private static final class Jar {
         private final JarFile file;
         private final Manifest manifest;
-        private final URL url;
+        private final CodeSource source;
 
         Jar(URL root) throws IOException {
             JarURLConnection connection = (JarURLConnection) root.openConnection();
             connection.setUseCaches(false);
             file = connection.getJarFile();
             manifest = file.getManifest();
-            url = connection.getJarFileURL();
+            source = new CodeSource(connection.getJarFileURL(), (CodeSigner[]) null);
         }
 
         /** Nothing in the manifest is about this class or package alone, or seals it. */
@@ -156,11 +156,10 @@ public class CachingClassLoader extends URLClassLoader {
             bytes = read(jar, entry);
         }
         definePackage(name, jar);
-        Class<?> defined = defineClass(name, bytes, 0, bytes.length,
-                new CodeSource(jar.url, (CodeSigner[]) null));
+        Class<?> defined = defineClass(name, bytes, 0, bytes.length, jar.source);
         if (isCached) {
             fromCache.incrementAndGet();
-        } else {
+        } else if (ClassCache.isOfVersion52(bytes)) {
             submit(bytes);
         }
         return defined;
@@ -198,7 +197,7 @@ public class CachingClassLoader extends URLClassLoader {
         }
         try {
             Manifest manifest = jar.manifest == null ? new Manifest() : jar.manifest;
-            definePackage(name.substring(0, dot), manifest, jar.url);
+            definePackage(name.substring(0, dot), manifest, jar.source.getLocation());
         } catch (IllegalArgumentException e) {
             // It is there, by another way of defining classes.
         }

@@ -280,6 +280,11 @@ public final class ClassCache implements AutoCloseable {
         return told[0];
     }
 
+    /** Whether the bytes say that they are a class file of version 52.0. */
+    static boolean isOfVersion52(byte[] file) {
+        return file.length >= 8 && (file[4] | file[5] | file[6]) == 0 && file[7] == 52;
+    }
+
     /**
      * Unloads a loader with its classes.
      *
