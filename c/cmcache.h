@@ -317,6 +317,169 @@ static inline int32_t cmcache_record_code(cmcache_record *record, const cmcore_m
     return cmcore_record_code(&record->handle, method, code);
 }
 
+/* ---- the parts of a class
+ *
+ * Each is the call of cmcore.h with the words of the record; what it sets is described there. */
+
+/* OK. */
+static inline int32_t cmcache_record_name(cmcache_record *record, cmcore_place *name)
+{
+    const uint64_t *words;
+    size_t count;
+    int32_t status = cmcache_record_words(record, &words, &count);
+    return status ? status : cmcore_words_class_name(words, count, name);
+}
+
+/* OK, CMCORE_NONE. */
+static inline int32_t cmcache_record_super_name(cmcache_record *record, cmcore_place *name)
+{
+    const uint64_t *words;
+    size_t count;
+    int32_t status = cmcache_record_words(record, &words, &count);
+    return status ? status : cmcore_words_super_name(words, count, name);
+}
+
+/* OK. */
+static inline int32_t cmcache_record_interface_count(cmcache_record *record, uint16_t *interfaces)
+{
+    const uint64_t *words;
+    size_t count;
+    int32_t status = cmcache_record_words(record, &words, &count);
+    return status ? status : cmcore_words_interface_count(words, count, interfaces);
+}
+
+/* The name of the interface at an index, which counts from 0. OK, CMCORE_NONE. */
+static inline int32_t cmcache_record_interface(cmcache_record *record, uint16_t index,
+                                               cmcore_place *name)
+{
+    const uint64_t *words;
+    size_t count;
+    int32_t status = cmcache_record_words(record, &words, &count);
+    return status ? status : cmcore_words_interface(words, count, index, name);
+}
+
+/* One more than the last index of the pool. OK. */
+static inline int32_t cmcache_record_pool_count(cmcache_record *record, uint16_t *pool_count)
+{
+    const uint64_t *words;
+    size_t count;
+    int32_t status = cmcache_record_words(record, &words, &count);
+    return status ? status : cmcore_words_pool_count(words, count, pool_count);
+}
+
+/* The constant after the one at an index, or the first one after 0. OK, CMCORE_NONE. */
+static inline int32_t cmcache_record_next_constant(cmcache_record *record, uint16_t after,
+                                                   uint16_t *index, cmcore_constant *constant)
+{
+    const uint64_t *words;
+    size_t count;
+    int32_t status = cmcache_record_words(record, &words, &count);
+    return status ? status : cmcore_words_next_constant(words, count, after, index, constant);
+}
+
+/* OK. */
+static inline int32_t cmcache_record_field_count(cmcache_record *record, uint16_t *fields)
+{
+    const uint64_t *words;
+    size_t count;
+    int32_t status = cmcache_record_words(record, &words, &count);
+    return status ? status : cmcore_words_field_count(words, count, fields);
+}
+
+/* OK. */
+static inline int32_t cmcache_record_method_count(cmcache_record *record, uint16_t *methods)
+{
+    const uint64_t *words;
+    size_t count;
+    int32_t status = cmcache_record_words(record, &words, &count);
+    return status ? status : cmcore_words_method_count(words, count, methods);
+}
+
+/* The field at an index, which counts from 0. OK, CMCORE_NONE. */
+static inline int32_t cmcache_record_field_at(cmcache_record *record, uint16_t index,
+                                              cmcore_member_part *field)
+{
+    const uint64_t *words;
+    size_t count;
+    int32_t status = cmcache_record_words(record, &words, &count);
+    return status ? status : cmcore_words_field(words, count, index, field);
+}
+
+/* The same of methods. */
+static inline int32_t cmcache_record_method_at(cmcache_record *record, uint16_t index,
+                                               cmcore_member_part *method)
+{
+    const uint64_t *words;
+    size_t count;
+    int32_t status = cmcache_record_words(record, &words, &count);
+    return status ? status : cmcore_words_method(words, count, index, method);
+}
+
+/* How many attributes the class has, or the field or method at an index. OK. */
+static inline int32_t cmcache_record_attribute_count(cmcache_record *record, uint32_t of,
+                                                     uint16_t member, uint16_t *attributes)
+{
+    const uint64_t *words;
+    size_t count;
+    int32_t status = cmcache_record_words(record, &words, &count);
+    return status ? status : cmcore_words_attribute_count(words, count, of, member, attributes);
+}
+
+/* The attribute at an index of these. OK, CMCORE_NONE. */
+static inline int32_t cmcache_record_attribute(cmcache_record *record, uint32_t of, uint16_t member,
+                                               uint16_t index, cmcore_attribute *attribute)
+{
+    const uint64_t *words;
+    size_t count;
+    int32_t status = cmcache_record_words(record, &words, &count);
+    return status ? status : cmcore_words_attribute(words, count, of, member, index, attribute);
+}
+
+/* The first attribute of a name among these. OK, CMCORE_NONE. */
+static inline int32_t cmcache_record_attribute_named(cmcache_record *record, uint32_t of,
+                                                     uint16_t member, const char *name,
+                                                     size_t name_len, cmcore_attribute *attribute)
+{
+    const uint64_t *words;
+    size_t count;
+    int32_t status = cmcache_record_words(record, &words, &count);
+    return status ? status : cmcore_words_attribute_named(words, count, of, member,
+                                                          (const uint8_t *)name, name_len,
+                                                          attribute);
+}
+
+/* The attributes of a code, given the content of its Code. OK, CMCORE_NONE. */
+static inline int32_t cmcache_record_nested(cmcache_record *record, const cmcore_place *code,
+                                            cmcore_nested *nested)
+{
+    const uint64_t *words;
+    size_t count;
+    int32_t status = cmcache_record_words(record, &words, &count);
+    return status ? status : cmcore_words_nested(words, count, code, nested);
+}
+
+/* The attribute at a byte of that content. OK, CMCORE_NONE. */
+static inline int32_t cmcache_record_nested_attribute(cmcache_record *record,
+                                                      const cmcore_place *code, uint64_t from,
+                                                      cmcore_attribute *attribute)
+{
+    const uint64_t *words;
+    size_t count;
+    int32_t status = cmcache_record_words(record, &words, &count);
+    return status ? status : cmcore_words_nested_attribute(words, count, code, from, attribute);
+}
+
+/* The class file, exactly the bytes that were defined; *len is how many there are. OK;
+ * CMCORE_NO_ROOM if they are more than `size`: nothing is written then; NO_MEMORY. */
+static inline int32_t cmcache_record_class_file(cmcache_record *record, uint8_t *out, size_t size,
+                                                size_t *len)
+{
+    const uint64_t *words;
+    size_t count;
+    int32_t status = cmcache_record_words(record, &words, &count);
+    return status ? status : cmcore_words_class_file(words, count, out, size, len);
+}
+
 /* Gives back its memory. Does nothing if it is empty. */
 static inline void cmcache_release_record(cmcache_record *record)
 {

@@ -289,6 +289,104 @@ int32_t cmcore_view_next(const cmcore_view_row *rows, size_t row_count, uint64_t
 int32_t cmcore_view_name(const uint8_t *bytes, size_t len, const cmcore_view_row *row,
                          const uint8_t **name, size_t *name_len);
 
+/* ---- the parts of a class, from the words of its record
+ *
+ * The words are those of cmcore_record_words, or any others: each call reads within them, and what
+ * it says is the class's part if they are a class's record. No handle is used: any number of
+ * threads may read the same words at once. What isn't there leaves what was to be set as it was. */
+
+/* Where some bytes are, in bytes from the record's first byte. */
+typedef struct {
+    uint32_t at;
+    uint32_t len;
+} cmcore_place;
+
+/* OK. */
+int32_t cmcore_words_flags(const uint64_t *words, size_t count, uint16_t *flags);
+int32_t cmcore_words_class_name(const uint64_t *words, size_t count, cmcore_place *name);
+
+/* OK, NONE. */
+int32_t cmcore_words_super_name(const uint64_t *words, size_t count, cmcore_place *name);
+
+/* OK. */
+int32_t cmcore_words_interface_count(const uint64_t *words, size_t count, uint16_t *interfaces);
+
+/* The name of the interface at an index, which counts from 0. OK, NONE. */
+int32_t cmcore_words_interface(const uint64_t *words, size_t count, uint16_t index,
+                               cmcore_place *name);
+
+/* One more than the last index of the pool. OK. */
+int32_t cmcore_words_pool_count(const uint64_t *words, size_t count, uint16_t *pool_count);
+
+/* OK, NONE. */
+int32_t cmcore_words_constant(const uint64_t *words, size_t count, uint16_t index,
+                              cmcore_constant *constant);
+
+/* The first constant after the one at an index, or the first of all after 0, and its index. `after`
+ * is 0 or the index of a constant. OK, NONE. */
+int32_t cmcore_words_next_constant(const uint64_t *words, size_t count, uint16_t after,
+                                   uint16_t *index, cmcore_constant *constant);
+
+typedef struct {
+    uint16_t flags;
+    cmcore_place name;
+    cmcore_place descriptor;
+    uint16_t attributes; /* how many it has */
+} cmcore_member_part;
+
+/* OK. */
+int32_t cmcore_words_field_count(const uint64_t *words, size_t count, uint16_t *fields);
+int32_t cmcore_words_method_count(const uint64_t *words, size_t count, uint16_t *methods);
+
+/* The one at an index, which counts from 0. OK, NONE. */
+int32_t cmcore_words_field(const uint64_t *words, size_t count, uint16_t index,
+                           cmcore_member_part *field);
+int32_t cmcore_words_method(const uint64_t *words, size_t count, uint16_t index,
+                            cmcore_member_part *method);
+
+/* Whose attributes are meant: those of the class, of the field or of the method at an index. */
+enum { CMCORE_OF_CLASS = 0, CMCORE_OF_FIELD = 1, CMCORE_OF_METHOD = 2 };
+
+typedef struct {
+    cmcore_place name;
+    cmcore_place content;
+} cmcore_attribute;
+
+/* OK; there are none if there is no such member. */
+int32_t cmcore_words_attribute_count(const uint64_t *words, size_t count, uint32_t of,
+                                     uint16_t member, uint16_t *attributes);
+
+/* The attribute at an index, which counts from 0. OK, NONE. */
+int32_t cmcore_words_attribute(const uint64_t *words, size_t count, uint32_t of, uint16_t member,
+                               uint16_t index, cmcore_attribute *attribute);
+
+/* The first attribute of a name. OK, NONE. */
+int32_t cmcore_words_attribute_named(const uint64_t *words, size_t count, uint32_t of,
+                                     uint16_t member, const uint8_t *name, size_t name_len,
+                                     cmcore_attribute *attribute);
+
+/* The attributes of a method's code (JVMS 4.7.3). */
+typedef struct {
+    uint64_t from; /* the byte of the Code's content at which the first one begins */
+    uint16_t count;
+} cmcore_nested;
+
+/* Given the content of a Code. OK, NONE if it ends before it tells their count. */
+int32_t cmcore_words_nested(const uint64_t *words, size_t count, const cmcore_place *code,
+                            cmcore_nested *nested);
+
+/* The attribute that begins at a byte of the content; the next one begins 6 bytes and the length of
+ * its own content after that. OK, NONE if the content ends before the attribute does. */
+int32_t cmcore_words_nested_attribute(const uint64_t *words, size_t count,
+                                      const cmcore_place *code, uint64_t from,
+                                      cmcore_attribute *attribute);
+
+/* The class file, exactly the bytes that were defined; *len is how many there are. OK; NO_ROOM if
+ * they are more than `size`: nothing is written then; NO_MEMORY; NONE if the words are no
+ * record. */
+int32_t cmcore_words_class_file(const uint64_t *words, size_t count, uint8_t *out, size_t size,
+                                size_t *len);
+
 /* ---- any handle */
 
 /* Empties a handle, and gives back its memory. What a cache accepted and the caller wasn't told to

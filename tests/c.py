@@ -16,7 +16,7 @@ import oracle
 
 TOP = Path(__file__).resolve().parent.parent
 # Crates with structs that the exports of cm_core pass on, and the lengths of arrays in them.
-CRATES = "cm_core", "cm_view_index", "cm_plain_view"
+CRATES = "cm_core", "cm_record_parts", "cm_view_index", "cm_plain_view"
 LENGTHS = {"NAME_LIMIT": oracle.NAME_LIMIT}
 NUMBERS = {"bool": "bool", **{f"u{bits}": f"uint{bits}_t" for bits in (8, 16, 32, 64)},
            "i32": "int32_t", "usize": "size_t"}
@@ -137,9 +137,10 @@ def compare(archive):
     for name, declared in structs.items():
         # A handle's second member is a struct of one pointer.
         if name != "cmcore_handle":
+            due = [(named.get(kind, kind), member) for kind, member in declared]
             checks.check(f"{name} has the members of its source",
-                         members.get(named.get(name)) == declared,
-                         f"{declared}, and in the source {members.get(named.get(name))}")
+                         members.get(named.get(name)) == due,
+                         f"{due}, and in the source {members.get(named.get(name))}")
     return checks.finish()
 
 

@@ -256,6 +256,84 @@ static void prepares_classes(void)
     cmcache_release_prepared(&prepared);
 }
 
+/* Whether these bytes of a record are a text. */
+static bool is_text(const uint64_t *words, cmcore_place place, const char *text)
+{
+    return place.len == strlen(text) && !memcmp((const uint8_t *)words + place.at, text, place.len);
+}
+
+/* The parts of class M. */
+static void reads_the_class(cmcache_record *record, const uint64_t *words)
+{
+    cmcore_place name;
+    cmcore_constant constant;
+    uint16_t number = 0, after = 0, constants = 0;
+    EXPECT(CMCORE_OK, cmcache_record_name(record, &name));
+    CHECK(is_text(words, name, "M"));
+    EXPECT(CMCORE_OK, cmcache_record_super_name(record, &name));
+    CHECK(is_text(words, name, "java/lang/Object"));
+    EXPECT(CMCORE_OK, cmcache_record_interface_count(record, &number));
+    CHECK(number == 0);
+    EXPECT(CMCORE_NONE, cmcache_record_interface(record, 0, &name));
+    CHECK(is_text(words, name, "java/lang/Object"));
+    EXPECT(CMCORE_OK, cmcache_record_pool_count(record, &number));
+    CHECK(number == 12);
+    while (!cmcache_record_next_constant(record, after, &after, &constant))
+        constants++;
+    CHECK(constants == 10 && after == 10 && constant.value == 0x100000002);
+}
+
+static void reads_members(cmcache_record *record, const uint64_t *words)
+{
+    cmcore_member_part member;
+    cmcore_attribute attribute;
+    cmcore_nested nested;
+    uint16_t number = 0;
+    EXPECT(CMCORE_OK, cmcache_record_field_count(record, &number));
+    CHECK(number == 1);
+    EXPECT(CMCORE_OK, cmcache_record_field_at(record, 0, &member));
+    CHECK(member.flags == 2 && member.attributes == 0 && is_text(words, member.name, "x")
+          && is_text(words, member.descriptor, "I"));
+    EXPECT(CMCORE_NONE, cmcache_record_field_at(record, 1, &member));
+    EXPECT(CMCORE_OK, cmcache_record_method_count(record, &number));
+    CHECK(number == 1);
+    EXPECT(CMCORE_OK, cmcache_record_method_at(record, 0, &member));
+    CHECK(member.flags == 1 && member.attributes == 1 && is_text(words, member.name, "run")
+          && is_text(words, member.descriptor, "()V"));
+    EXPECT(CMCORE_NONE, cmcache_record_method_at(record, 1, &member));
+    EXPECT(CMCORE_OK, cmcache_record_attribute_count(record, CMCORE_OF_METHOD, 0, &number));
+    CHECK(number == 1);
+    EXPECT(CMCORE_OK, cmcache_record_attribute_count(record, CMCORE_OF_CLASS, 0, &number));
+    CHECK(number == 0);
+    EXPECT(CMCORE_OK, cmcache_record_attribute(record, CMCORE_OF_METHOD, 0, 0, &attribute));
+    CHECK(is_text(words, attribute.name, "Code") && attribute.content.len == 13);
+    CHECK(((const uint8_t *)words)[attribute.content.at + 8] == 0xb1);
+    EXPECT(CMCORE_NONE, cmcache_record_attribute(record, CMCORE_OF_METHOD, 0, 1, &attribute));
+    EXPECT(CMCORE_NONE, cmcache_record_attribute(record, CMCORE_OF_METHOD, 1, 0, &attribute));
+    EXPECT(CMCORE_NONE, cmcache_record_attribute(record, CMCORE_OF_FIELD, 0, 0, &attribute));
+    EXPECT(CMCORE_NONE, cmcache_record_attribute(record, 3, 0, 0, &attribute));
+    EXPECT(CMCORE_OK, cmcache_record_attribute_named(record, CMCORE_OF_METHOD, 0, TEXT("Code"),
+                                                     &attribute));
+    EXPECT(CMCORE_NONE, cmcache_record_attribute_named(record, CMCORE_OF_METHOD, 0, TEXT("Core"),
+                                                       &attribute));
+    EXPECT(CMCORE_OK, cmcache_record_nested(record, &attribute.content, &nested));
+    CHECK(nested.count == 0 && nested.from == 13);
+    EXPECT(CMCORE_NONE, cmcache_record_nested_attribute(record, &attribute.content, nested.from,
+                                                        &attribute));
+}
+
+static void reads_the_class_file(cmcache_record *record)
+{
+    uint8_t out[sizeof class_m + 1];
+    size_t len = 0;
+    memset(out, 0x5a, sizeof out);
+    EXPECT(CMCORE_NO_ROOM, cmcache_record_class_file(record, out, sizeof class_m - 1, &len));
+    CHECK(len == sizeof class_m && out[0] == 0x5a);
+    EXPECT(CMCORE_OK, cmcache_record_class_file(record, out, sizeof out, &len));
+    CHECK(len == sizeof class_m && !memcmp(out, class_m, len) && out[len] == 0x5a);
+    EXPECT(CMCORE_NONE, cmcore_words_class_file(record_a, 15, out, sizeof out, &len));
+}
+
 static void reads_records(void)
 {
     cmcache *cache = new_cache("records", 8, 64, 4096);
@@ -300,7 +378,11 @@ static void reads_records(void)
     CHECK(code.max_stack == 3 && code.max_locals == 4 && code.handlers == 0 && code.code_len == 1);
     CHECK(bytes[code.code_at] == 0xb1 && code.handlers_at == code.code_at + 3);
     EXPECT(CMCORE_NONE, cmcache_record_code(&record, &field, &code));
+    reads_the_class(&record, words);
+    reads_members(&record, words);
+    reads_the_class_file(&record);
     cmcache_release_record(&record);
+    EXPECT(CMCORE_EMPTY, cmcache_record_class_file(&record, NULL, 0, &count));
     EXPECT(CMCORE_OK, cmcache_close(cache));
 }
 

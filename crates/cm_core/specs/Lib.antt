@@ -8,3 +8,4 @@ pub mod Handles
 pub mod Views
 pub mod Comparing
 pub mod Listing
+pub mod Parts

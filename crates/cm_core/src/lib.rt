@@ -10,6 +10,7 @@ mod handle;
 mod inner;
 mod listing;
 mod loose;
+mod parts;
 mod places;
 mod record;
 mod status;

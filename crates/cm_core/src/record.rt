@@ -165,8 +165,8 @@ fn with_place(tag: u8, place: Utf8Place) -> ConstantForC
     told
 }
 
-// A constant in C's numbers.
-fn in_numbers(constant: Constant<Utf8Place>) -> ConstantForC
+/// A constant in C's numbers.
+pub(crate) fn in_numbers(constant: Constant<Utf8Place>) -> ConstantForC
     ensures { result ≡ constant_told constant }
 {
     match constant {
@@ -203,8 +203,8 @@ fn in_numbers(constant: Constant<Utf8Place>) -> ConstantForC
     }
 }
 
-// Says which constant was found, if one was.
-fn tell_constant(found: Option<Constant<Utf8Place>>, told: &mut ConstantForC) -> i32
+/// Says which constant was found, if one was.
+pub(crate) fn tell_constant(found: Option<Constant<Utf8Place>>, told: &mut ConstantForC) -> i32
     ensures status { result ≡ found_status found }
     ensures told { told.new ≡ constant_found told.old found }
 {

@@ -28,6 +28,7 @@ pub enum Owner {
 }
 
 /// An attribute (JVMS 4.7).
+#[repr(C)]
 #[derive(Clone, Copy, Debug, PartialEq, Eq)]
 pub struct Attribute {
     pub name: Place,

@@ -11,6 +11,7 @@ use crate::words::{offset_at, word_at};
 use cm_record_layout::{HEAD_MEMBERS_AT, first, fourth, second, third};
 
 /// A field or a method (JVMS 4.5, 4.6).
+#[repr(C)]
 #[derive(Clone, Copy, Debug, PartialEq, Eq)]
 pub struct Member {
     pub flags: u16,

@@ -13,6 +13,7 @@ use crate::texts::byte_at;
 use cm_record_layout::THIRD;
 
 /// The attributes of a code, in the content of a Code.
+#[repr(C)]
 #[derive(Clone, Copy, Debug, PartialEq, Eq)]
 pub struct NestedAttributes {
     /// The byte of the content at which the first one begins.

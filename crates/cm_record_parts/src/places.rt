@@ -12,6 +12,7 @@ use cm_class::Constant;
 use cm_record::Utf8Place;
 
 /// Where some bytes are in a record.
+#[repr(C)]
 #[derive(Clone, Copy, Debug, PartialEq, Eq)]
 pub struct Place {
     /// Where they begin, counted in bytes from the record's first byte; a byte is eight bits of its
