@@ -91,7 +91,8 @@ def make_folder(path, contents):
 
 
 def usual(bench):
-    """Files, folders and jars, with one worker and with several, and once more."""
+    """Files, folders and jars, with one worker and with several, and once more: the same classes
+    make the same file, byte for byte."""
     names = names_of(300)
     contents = [(f"{name}.class", class_bytes(name, 7 * at)) for at, name in enumerate(names)]
     left_out = [("module-info.class", b"no class"), ("p/package-info.class", b"none"),
@@ -102,7 +103,7 @@ def usual(bench):
     make_folder(folder, contents + left_out)
     files = []
     for source in (jar, stored, folder):
-        for workers in ("1", "4"):
+        for workers in ("1", "2", "4", "4"):
             path = bench.new_path()
             files.append(path)
             got = bench.run(path, "app", source, "--new", "--workers", workers)
@@ -357,6 +358,7 @@ def main(arguments):
         bench = Bench(importer, program, folder)
         readme(bench)
         jar, names = usual(bench)
+        never_stale(bench)
         not_imported(bench)
         words(bench, jar)
         full(bench, jar, names)
