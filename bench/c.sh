@@ -8,8 +8,11 @@
 # 1, 4, 16 and 64 threads define the ordinary classes (those of bench/run.sh) in a new file in
 # FOLDER (out/), each thread its share, one after another, in a loader of its own; they were
 # prepared before (bench/c_calls.c). The other stores store the same records, one a commit
-# (bench/stores.c). Then 1 and 16 threads look up all of them ten times, and the file is opened and
-# closed ten times. Each row has the best of RUNS runs (5), and the worst to show the machine's
+# (bench/stores.c). Then 1, 4 and 16 threads look up all of them ten times, and the file is opened
+# and closed ten times. Then views of the file are measured, which map it (bench/view_calls.c): one
+# is opened ten times; one is opened and every third class looked up once, which judges it, by 1 and
+# 4 threads; and 1, 2, 4 and 16 threads look up all classes ten times. Each row has the best of RUNS
+# runs (5), and the worst to show the machine's
 # noise; all take turns.
 set -eu
 top=$(cd "$(dirname "${BASH_SOURCE[0]}")/.." && pwd)
@@ -30,6 +33,8 @@ add_store lmdb lmdb.h -DWITH_LMDB -llmdb
 add_store rocksdb rocksdb/c.h -DWITH_ROCKSDB -lrocksdb -lpthread
 gcc -O2 -o "$work/stores" "$top/bench/stores.c" "${flags[@]}"
 gcc -std=c11 -O2 -I"$top/c" -o "$work/calls" "$top/bench/c_calls.c" "$top"/c/*.c "$core" -lpthread
+gcc -std=c11 -O2 -I"$top/c" -o "$work/view_calls" "$top/bench/view_calls.c" "$top"/c/*.c "$core" \
+    -lpthread
 bench=$(find_program cm_bench_files)
 mkdir -p "$top/out"
 folder=$(mktemp -d -p "${2:-$top/out}")
@@ -53,10 +58,15 @@ for ((run = 0; run < runs; run++)); do
         rm -f "$cache"
         "$work/calls" define "$cache" "$count" 16384 <"$work/classes"
         case $count in
-        1 | 16) "$work/calls" find "$cache" "$count" $rounds <"$work/classes" ;;
+        1 | 4 | 16) "$work/calls" find "$cache" "$count" $rounds <"$work/classes" ;;
         esac
         if [[ " ${stores[*]} " = *" rocksdb "* ]]; then others rocksdb "$count"; fi
     done | awk '$2 == "threads" { print $1, $3, $5, $7; next } { print }'
+    {
+        "$work/view_calls" open "$cache" $rounds
+        for count in 1 4; do "$work/view_calls" third "$cache" $count; done
+        for count in 1 2 4 16; do "$work/view_calls" again "$cache" $count $rounds; done
+    } | awk '{ print $1, $3, $5, $7 }'
     "$work/calls" open "$cache" $rounds | awk '{ print $1, 1, $3, $5 }'
     if [[ " ${stores[*]} " = *" lmdb "* ]]; then others lmdb 1; fi
 done >"$work/rows"
