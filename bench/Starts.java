@@ -34,9 +34,10 @@ import org.objectweb.asm.Opcodes;
  *
  * <pre>Starts WAY FILE JAR..</pre>
  *
- * Metadata (ways {@code cache}, {@code asm}, {@code javassist}): of each class its flags, super
- * class, interfaces and annotations, and of each method its flags, name, descriptor and
- * annotations, as one sum, which is the same for all. {@code unpack} only reads the bytes.
+ * Metadata (ways {@code cache}, {@code cache-written}, {@code asm}, {@code javassist}): of each
+ * class its flags, super class, interfaces and annotations, and of each method its flags, name,
+ * descriptor and annotations, as one sum, which is the same for all. A cache is opened only to be
+ * read, but for {@code cache-written}. {@code unpack} only reads the bytes.
  * {@code load} and {@code load-cached} define all classes, by a URLClassLoader and by a
  * CachingClassLoader. {@code fill} makes the file.
  */
@@ -44,12 +45,20 @@ public final class Starts {
     private static final String LOADER = "app";
 
     private static long sum;
+    private static long all; // whatever the order of the classes
     private static int classes;
 
     private Starts() {}
 
     private static void add(Object text) {
         sum = 31 * sum + (text == null ? 0 : text.hashCode());
+    }
+
+    /** The end of a class. */
+    private static void end() {
+        classes++;
+        all += sum;
+        sum = 0;
     }
 
     /** What is done with an entry of a jar. */
@@ -91,20 +100,22 @@ public final class Starts {
         each(jars, (jar, entry) -> {
             byte[] file = bytes(jar, entry);
             if (file[7] == 52) {
-                classes++;
                 reader.read(file);
+                end();
             }
         });
     }
 
     // ---- metadata by the cache
 
-    private static void byCache(ClassCache cache, List<String> jars) throws IOException {
-        each(jars, (jar, entry) -> cache.find(LOADER, name(entry)).ifPresent(Starts::read));
+    private static void byCache(ClassCache cache) {
+        for (String name : cache.classes(LOADER)) {
+            read(cache.find(LOADER, name).get());
+            end();
+        }
     }
 
     private static void read(ClassRecord record) {
-        classes++;
         add(record.accessFlags());
         add(record.superName().orElse(null));
         record.interfaces().forEach(Starts::add);
@@ -246,12 +257,14 @@ public final class Starts {
     }
 
     private static void withCache(String way, String path, List<String> jars) throws IOException {
-        ClassCache.Options options = ClassCache.Options.create();
-        try (ClassCache cache = ClassCache.open(Paths.get(path), options)) {
-            if (way.equals("fill")) {
+        boolean fills = way.equals("fill");
+        try (ClassCache cache = fills || way.endsWith("-written")
+                ? ClassCache.open(Paths.get(path), ClassCache.Options.create())
+                : ClassCache.openReadOnly(Paths.get(path))) {
+            if (fills) {
                 fill(cache, jars);
-            } else if (way.equals("cache")) {
-                byCache(cache, jars);
+            } else if (way.startsWith("cache")) {
+                byCache(cache);
             } else {
                 load(new CachingClassLoader(cache, LOADER, urls(jars),
                         Starts.class.getClassLoader()), jars);
@@ -261,6 +274,6 @@ public final class Starts {
 
     public static void main(String[] words) throws IOException {
         run(words[0], words[1], Arrays.asList(words).subList(2, words.length));
-        System.out.println(classes + " " + Long.toHexString(sum));
+        System.out.println(classes + " " + Long.toHexString(all));
     }
 }

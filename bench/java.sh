@@ -49,7 +49,8 @@ echo "${#jars[@]} jars; metadata of $(start "" -- cache >/dev/null; cut -d ' ' -
     "classes; all of any version that can be defined:" \
     "$(start "" -- load >/dev/null; cut -d ' ' -f 1 "$work/told")"
 for ((round = 0; round < rounds; round++)); do
-    start "metadata by the cache" -- cache
+    start "metadata by the cache, only read" -- cache
+    start "metadata by the cache" -- cache-written
     start "metadata by ASM" -- asm
     start "metadata by Javassist" -- javassist
     start "the jars unpacked" -- unpack

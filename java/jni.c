@@ -16,11 +16,19 @@
 /* No name in a class file is longer, and no loader's. */
 enum { LONGEST = 65535 };
 
+/* What each call gets first; few need it. */
+#define FROM_JAVA JNIEnv *env __attribute__((unused)), jclass type __attribute__((unused))
+
 /* ---- what comes from Java */
 
 static cmcache *cache_of(jlong handle)
 {
     return (cmcache *)(intptr_t)handle;
+}
+
+static cmcache_view *view_of(jlong handle)
+{
+    return (cmcache_view *)(intptr_t)handle;
 }
 
 /* A string as a class file spells it (JVMS 4.4.7). */
@@ -80,39 +88,27 @@ static jint with_cause(JNIEnv *env, int32_t status, int cause, jlongArray told)
     return status;
 }
 
-static void no_memory(JNIEnv *env)
+JNIEXPORT jstring JNICALL Java_org_cmcache_Native_statusText(FROM_JAVA, jint status)
 {
-    jclass error = (*env)->FindClass(env, "java/lang/OutOfMemoryError");
-    if (error != NULL)
-        (*env)->ThrowNew(env, error, "cmcache: out of memory");
-}
-
-JNIEXPORT jstring JNICALL Java_org_cmcache_Native_statusText(JNIEnv *env, jclass type, jint status)
-{
-    (void)type;
     return (*env)->NewStringUTF(env, cmcache_status_text(status));
 }
 
-JNIEXPORT jstring JNICALL Java_org_cmcache_Native_causeText(JNIEnv *env, jclass type, jint cause)
+JNIEXPORT jstring JNICALL Java_org_cmcache_Native_causeText(FROM_JAVA, jint cause)
 {
-    (void)type;
     return (*env)->NewStringUTF(env, strerror(cause));
 }
 
-JNIEXPORT jstring JNICALL Java_org_cmcache_Native_version(JNIEnv *env, jclass type)
+JNIEXPORT jstring JNICALL Java_org_cmcache_Native_version(FROM_JAVA)
 {
-    (void)type;
     return (*env)->NewStringUTF(env, cmcache_version());
 }
 
 /* ---- a file */
 
 /* DEVICE: the cause. */
-JNIEXPORT jint JNICALL Java_org_cmcache_Native_format(JNIEnv *env, jclass type, jbyteArray path,
-                                                      jint top, jint roots, jint slots,
-                                                      jlongArray told)
+JNIEXPORT jint JNICALL Java_org_cmcache_Native_format(FROM_JAVA, jbyteArray path, jint top,
+                                                      jint roots, jint slots, jlongArray told)
 {
-    (void)type;
     char *name = path_of(env, path);
     if (name == NULL)
         return CMCORE_NO_MEMORY;
@@ -122,33 +118,37 @@ JNIEXPORT jint JNICALL Java_org_cmcache_Native_format(JNIEnv *env, jclass type, 
     return with_cause(env, status, cause, told);
 }
 
-/* OK: the handle. DAMAGED: what, and in which slot. DEVICE: the cause. */
-JNIEXPORT jint JNICALL Java_org_cmcache_Native_open(JNIEnv *env, jclass type, jbyteArray path,
+/* OK: the handle of a cache, or of a view. DAMAGED: what, and in which slot. DEVICE: the cause. */
+JNIEXPORT jint JNICALL Java_org_cmcache_Native_open(FROM_JAVA, jbyteArray path, jboolean is_view,
                                                     jlongArray told)
 {
-    (void)type;
     cmcache *cache = NULL;
+    cmcache_view *view = NULL;
     cmcore_damage damage = {0};
     char *name = path_of(env, path);
     if (name == NULL)
         return CMCORE_NO_MEMORY;
-    int32_t status = cmcache_open(name, &cache, &damage);
+    int32_t status = is_view ? cmcache_open_read_only(name, &view, &damage)
+                             : cmcache_open(name, &cache, &damage);
     int cause = errno;
     free(name);
     if (status == CMCORE_OK)
-        tell(env, told, 1, (jlong[]){(jlong)(intptr_t)cache});
+        tell(env, told, 1, (jlong[]){is_view ? (jlong)(intptr_t)view : (jlong)(intptr_t)cache});
     if (status == CMCORE_DAMAGED)
         tell(env, told, 2, (jlong[]){damage.what, damage.slot});
     return with_cause(env, status, cause, told);
 }
 
 /* DEVICE: the cause. */
-JNIEXPORT jint JNICALL Java_org_cmcache_Native_close(JNIEnv *env, jclass type, jlong cache,
-                                                     jlongArray told)
+JNIEXPORT jint JNICALL Java_org_cmcache_Native_close(FROM_JAVA, jlong cache, jlongArray told)
 {
-    (void)type;
     int32_t status = cmcache_close(cache_of(cache));
     return with_cause(env, status, errno, told);
+}
+
+JNIEXPORT void JNICALL Java_org_cmcache_Native_closeView(FROM_JAVA, jlong view)
+{
+    cmcache_view_close(view_of(view));
 }
 
 /* ---- commands; OK and UNSURE: the number */
@@ -159,11 +159,9 @@ typedef int32_t command(cmcache *cache, const char *loader, size_t loader_len, u
 static command *const commands[] = {cmcache_add_loader, cmcache_unload, cmcache_unload_all,
                                     cmcache_tighten};
 
-JNIEXPORT jint JNICALL Java_org_cmcache_Native_command(JNIEnv *env, jclass type, jlong cache,
-                                                       jint which, jstring loaders,
-                                                       jlongArray told)
+JNIEXPORT jint JNICALL Java_org_cmcache_Native_command(FROM_JAVA, jlong cache, jint which,
+                                                       jstring loaders, jlongArray told)
 {
-    (void)type;
     text names;
     uint64_t number = 0;
     int32_t status = take(env, loaders, &names);
@@ -190,11 +188,10 @@ static int32_t prepare(JNIEnv *env, jbyteArray file, cmcache_prepared *prepared,
 }
 
 /* BAD_CLASS: its kind, the rule, the spot, and where. */
-JNIEXPORT jint JNICALL Java_org_cmcache_Native_define(JNIEnv *env, jclass type, jlong cache,
-                                                      jstring loader, jbyteArray file,
-                                                      jboolean waits, jlongArray told)
+JNIEXPORT jint JNICALL Java_org_cmcache_Native_define(FROM_JAVA, jlong cache, jstring loader,
+                                                      jbyteArray file, jboolean waits,
+                                                      jlongArray told)
 {
-    (void)type;
     cmcache_prepared prepared = CMCACHE_EMPTY;
     cmcore_bad_class bad = {0};
     text name;
@@ -214,81 +211,156 @@ JNIEXPORT jint JNICALL Java_org_cmcache_Native_define(JNIEnv *env, jclass type, 
     return status;
 }
 
-JNIEXPORT jint JNICALL Java_org_cmcache_Native_await(JNIEnv *env, jclass type, jlong cache,
-                                                     jlong number)
+JNIEXPORT jint JNICALL Java_org_cmcache_Native_await(FROM_JAVA, jlong cache, jlong number)
 {
-    (void)env;
-    (void)type;
     return cmcache_wait(cache_of(cache), (uint64_t)number);
 }
 
 /* OK and BROKEN: the last number that is known to be stored. */
-JNIEXPORT jint JNICALL Java_org_cmcache_Native_stored(JNIEnv *env, jclass type, jlong cache,
-                                                      jlongArray told)
+JNIEXPORT jint JNICALL Java_org_cmcache_Native_stored(FROM_JAVA, jlong cache, jlongArray told)
 {
-    (void)type;
     uint64_t number = 0;
     int32_t status = cmcache_stored(cache_of(cache), &number);
     tell(env, told, 1, (jlong[]){(jlong)number});
     return status;
 }
 
-/* ---- look-ups */
+/* ---- look-ups, in a cache or in a view */
 
-/* The words of a record: those before its runs go into head[0], as numbers; the runs are given
- * back, as bytes. NULL, and an exception, if Java has no memory. */
-static jbyteArray copied(JNIEnv *env, const uint64_t *words, size_t count, jobjectArray head)
+/* The words of a record go into found[0], those before its runs, as numbers, and found[1], as
+ * bytes. If Java has no memory, an exception is left to be thrown. */
+static void copy(JNIEnv *env, cmcache_words record, jobjectArray found)
 {
-    size_t runs_at = (size_t)words[7];
-    jsize run_bytes = (jsize)(8 * (count - runs_at));
+    size_t runs_at = (size_t)record.words[7];
+    jsize run_bytes = (jsize)(8 * (record.count - runs_at));
     jlongArray numbers = (*env)->NewLongArray(env, (jsize)runs_at);
     if (numbers == NULL)
-        return NULL;
-    (*env)->SetLongArrayRegion(env, numbers, 0, (jsize)runs_at, (const jlong *)words);
-    (*env)->SetObjectArrayElement(env, head, 0, numbers);
+        return;
+    (*env)->SetLongArrayRegion(env, numbers, 0, (jsize)runs_at, (const jlong *)record.words);
+    (*env)->SetObjectArrayElement(env, found, 0, numbers);
     jbyteArray runs = (*env)->NewByteArray(env, run_bytes);
-    if (runs != NULL)
-        (*env)->SetByteArrayRegion(env, runs, 0, run_bytes, (const jbyte *)(words + runs_at));
-    return runs;
+    if (runs == NULL)
+        return;
+    (*env)->SetByteArrayRegion(env, runs, 0, run_bytes, (const jbyte *)(record.words + runs_at));
+    (*env)->SetObjectArrayElement(env, found, 1, runs);
 }
 
-/* The record of a class, or NULL if there is none. */
-JNIEXPORT jbyteArray JNICALL Java_org_cmcache_Native_find(JNIEnv *env, jclass type, jlong cache,
-                                                          jstring loader, jstring name,
-                                                          jobjectArray head)
+static int32_t find_in_cache(JNIEnv *env, cmcache *cache, const text *loader, const text *name,
+                             jobjectArray found)
 {
-    (void)type;
     cmcache_record record = CMCACHE_EMPTY;
+    cmcache_words words = {0};
+    int32_t status = cmcache_find(cache, loader->bytes, loader->len, name->bytes, name->len,
+                                  &record);
+    if (status == CMCORE_OK)
+        status = cmcache_record_words(&record, &words.words, &words.count);
+    if (status == CMCORE_OK)
+        copy(env, words, found);
+    cmcache_release_record(&record);
+    return status;
+}
+
+static int32_t find_in_view(JNIEnv *env, const cmcache_view *view, const text *loader,
+                            const text *name, jobjectArray found)
+{
+    cmcache_words words = {0};
+    int32_t status = cmcache_view_find(view, loader->bytes, loader->len, name->bytes, name->len,
+                                       &words);
+    if (status == CMCORE_OK)
+        copy(env, words, found);
+    return status;
+}
+
+JNIEXPORT jint JNICALL Java_org_cmcache_Native_find(FROM_JAVA, jlong handle, jboolean is_view,
+                                                    jstring loader, jstring name,
+                                                    jobjectArray found)
+{
     text loader_text, name_text = {0};
-    const uint64_t *words = NULL;
-    size_t count = 0;
-    jbyteArray runs = NULL;
     int32_t status = take(env, loader, &loader_text);
     if (status == CMCORE_OK)
         status = take(env, name, &name_text);
     if (status == CMCORE_OK)
-        status = cmcache_find(cache_of(cache), loader_text.bytes, loader_text.len,
-                              name_text.bytes, name_text.len, &record);
-    if (status == CMCORE_OK)
-        status = cmcache_record_words(&record, &words, &count);
-    if (status == CMCORE_OK)
-        runs = copied(env, words, count, head);
-    if (status == CMCORE_NO_MEMORY)
-        no_memory(env);
-    cmcache_release_record(&record);
+        status = is_view
+            ? find_in_view(env, view_of(handle), &loader_text, &name_text, found)
+            : find_in_cache(env, cache_of(handle), &loader_text, &name_text, found);
     drop(&loader_text);
     drop(&name_text);
-    return runs;
+    return status;
+}
+
+/* Names, each with a 0 behind it: none has one inside (JVMS 4.4.7). */
+typedef struct {
+    char *bytes;
+    size_t len;
+    size_t room;
+} name_list;
+
+static int32_t add_name(void *context, const char *name, size_t len)
+{
+    name_list *list = context;
+    if (list->room - list->len <= len) {
+        size_t room = 2 * (list->room + len + 1);
+        char *bytes = realloc(list->bytes, room);
+        if (bytes == NULL || room > INT32_MAX) {
+            list->bytes = bytes != NULL ? bytes : list->bytes;
+            return CMCORE_NO_MEMORY;
+        }
+        list->bytes = bytes;
+        list->room = room;
+    }
+    memcpy(list->bytes + list->len, name, len);
+    list->bytes[list->len + len] = 0;
+    list->len += len + 1;
+    return 0;
+}
+
+static int32_t list(jlong handle, jboolean is_view, const text *loader, name_list *names)
+{
+    if (is_view)
+        return loader == NULL
+            ? cmcache_view_loaders(view_of(handle), add_name, names)
+            : cmcache_view_classes(view_of(handle), loader->bytes, loader->len, add_name, names);
+    return loader == NULL
+        ? cmcache_loaders(cache_of(handle), add_name, names)
+        : cmcache_classes(cache_of(handle), loader->bytes, loader->len, add_name, names);
+}
+
+/* The names of the classes of a loader, or of the loaders if it is null, into names[0]. */
+JNIEXPORT jint JNICALL Java_org_cmcache_Native_names(FROM_JAVA, jlong handle, jboolean is_view,
+                                                     jstring loader, jobjectArray names)
+{
+    text loader_text = {0};
+    name_list found = {0};
+    int32_t status = loader == NULL ? CMCORE_OK : take(env, loader, &loader_text);
+    if (status == CMCORE_OK)
+        status = list(handle, is_view, loader == NULL ? NULL : &loader_text, &found);
+    if (status == CMCORE_OK) {
+        jbyteArray bytes = (*env)->NewByteArray(env, (jsize)found.len);
+        if (bytes != NULL) {
+            (*env)->SetByteArrayRegion(env, bytes, 0, (jsize)found.len, (jbyte *)found.bytes);
+            (*env)->SetObjectArrayElement(env, names, 0, bytes);
+        }
+    }
+    free(found.bytes);
+    drop(&loader_text);
+    return status;
 }
 
 /* What was accepted, what is stored, and the sizes. */
-JNIEXPORT jint JNICALL Java_org_cmcache_Native_stats(JNIEnv *env, jclass type, jlong cache,
-                                                     jlongArray told)
+JNIEXPORT jint JNICALL Java_org_cmcache_Native_stats(FROM_JAVA, jlong cache, jlongArray told)
 {
-    (void)type;
     cmcore_stats stats = {0};
     int32_t status = cmcache_stats(cache_of(cache), &stats);
     tell(env, told, 5, (jlong[]){(jlong)stats.accepted, (jlong)stats.stored, stats.top,
                                  stats.roots, stats.slots});
+    return status;
+}
+
+/* How many commands were made, told twice, as stats does; a view tells no sizes. */
+JNIEXPORT jint JNICALL Java_org_cmcache_Native_viewStats(FROM_JAVA, jlong view, jlongArray told)
+{
+    cmcore_view_counts counts = {0};
+    int32_t status = cmcache_view_stats(view_of(view), &counts);
+    tell(env, told, 2, (jlong[]){(jlong)counts.number, (jlong)counts.number});
     return status;
 }

@@ -9,7 +9,7 @@
 #
 # KILLS=N kills N times instead of 10, SEED=N at other moments. Needs JDK 17 or Debian's
 # libasm-java, a C compiler with sanitizers and Python 3; of ant, Maven and Groovy it uses what is
-# there.
+# there. CM_CORE names another archive of the core.
 set -u
 cd "$(dirname "$0")/.." || exit 1
 . tests/lib.sh
@@ -117,7 +117,7 @@ check_last "the program opens the file that Java made"
 "${CC:-cc}" -shared -std=c11 -O1 -g -fPIC -fsanitize=address,undefined -fno-sanitize-recover \
     -fvisibility=hidden -Ic -I"$jdk/include" -I"$jdk/include/linux" \
     -Wl,--version-script,java/exports.map -o "$work/sanitized.so" java/jni.c c/*.c \
-    "$(find_core)" -lpthread
+    "${CM_CORE:-$(find_core)}" -lpthread
 check_last "the library with sanitizers"
 sanitized() {
     LD_PRELOAD="$("${CC:-cc}" -print-file-name=libasan.so) $("${CC:-cc}" \
@@ -140,7 +140,7 @@ for source in java/jni.c c/*.c; do
 done
 "${CC:-cc}" -shared -std=c11 -fPIC -Wall -Wextra -Werror -I"$jdk/include" -I"$jdk/include/linux" \
     -Wl,--version-script,java/exports.map -o "$work/refusing.so" "$work"/objects/*.o \
-    tests/java/refusing.c "$(find_core)" -lpthread
+    tests/java/refusing.c "${CM_CORE:-$(find_core)}" -lpthread
 check_last "the library that refuses memory"
 options=(-Dcmcache.library="$work/refusing.so")
 library "refused allocations" Refusals
@@ -224,7 +224,7 @@ put "$file" 8 '\x02'
 watched "a damaged file" "$file" \
     "cmcache: $file: damaged 1 0: the superblock; nothing is stored"
 watched "no folder" "$quick/none/file" \
-    "cmcache: $quick/none/file: No such file or directory; nothing is stored"
+    "cmcache: $quick/none/file: there is no such file; nothing is stored"
 watched "a bad name" "$quick/new,a b" \
     "cmcache: a b: a loader's name is 1 to 96 printable ASCII characters; nothing is stored"
 watched "no file" "" \

@@ -77,7 +77,11 @@ public class CacheException extends IOException {
         /** The file is in use, in this process or another. */
         BUSY(42),
         /** The path leads to a folder, a pipe or a device. */
-        NOT_REGULAR(43);
+        NOT_REGULAR(43),
+        /** Nothing has this name, or the folder isn't there. */
+        NO_FILE(44),
+        /** The file, or its folder, may not be opened in this way. */
+        NOT_ALLOWED(45);
 
         private final int code;
 
@@ -221,7 +225,10 @@ public class CacheException extends IOException {
                 case TRAILING:
                     return "it ends before byte " + at;
                 case MALFORMED:
-                    return "byte " + at + " is none of a class file of version 52.0";
+                    return "byte " + at + " is none of a class file";
+                case OTHER_VERSION:
+                    return "it is of version " + at / 65536 + "." + at % 65536
+                            + ", and not of 52.0";
                 default:
                     String where = spot == Spot.THIS || spot == Spot.SUPER ? "" : " " + at;
                     return "it breaks rule " + rule + " at " + spot.name().toLowerCase() + where;
@@ -258,7 +265,8 @@ public class CacheException extends IOException {
         /**
          * Where the fault is.
          *
-         * @return of a rule the index at the spot, otherwise a byte of the file; 0 if truncated
+         * @return of a rule the index at the spot; of another version 65,536 * its major number +
+         *     its minor one; otherwise a byte of the file; 0 if truncated
          */
         public long at() {
             return at;
@@ -270,10 +278,12 @@ public class CacheException extends IOException {
             TRUNCATED,
             /** Bytes follow the class. */
             TRAILING,
-            /** A byte is none of a class file, or of one of another version. */
+            /** A byte is none of a class file. */
             MALFORMED,
             /** It breaks a rule. */
-            RULE
+            RULE,
+            /** It begins as a class file of another version than 52.0. */
+            OTHER_VERSION
         }
 
         /** Parts of a class at which it may break a rule. */

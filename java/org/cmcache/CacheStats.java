@@ -29,7 +29,7 @@ public final class CacheStats {
     /**
      * How large a root is: it has 1,024 * 2^top bytes.
      *
-     * @return 3 to 12
+     * @return 3 to 12; 0 of a cache that is only read
      */
     public int top() {
         return (int) told[2];
@@ -38,7 +38,7 @@ public final class CacheStats {
     /**
      * How many roots the file may have.
      *
-     * @return 1 to 256
+     * @return 1 to 256; 0 of a cache that is only read
      */
     public int roots() {
         return (int) told[3];
@@ -47,7 +47,7 @@ public final class CacheStats {
     /**
      * How many slots each half of the journal has.
      *
-     * @return 256 to 65,536
+     * @return 256 to 65,536; 0 of a cache that is only read
      */
     public int slots() {
         return (int) told[4];

@@ -3,6 +3,7 @@ package org.cmcache;
 import java.io.DataInputStream;
 import java.io.IOException;
 import java.io.InputStream;
+import java.io.UncheckedIOException;
 import java.net.JarURLConnection;
 import java.net.URL;
 import java.net.URLClassLoader;
@@ -170,8 +171,8 @@ public class CachingClassLoader extends URLClassLoader {
         Optional<ClassRecord> found;
         try {
             found = cache.find(loader, path);
-        } catch (IllegalStateException e) {
-            return null; // the cache is closed
+        } catch (IllegalStateException | UncheckedIOException e) {
+            return null; // the cache is closed, or its record of the class damaged
         }
         byte[] bytes = found.map(ClassRecord::classFile).orElse(null);
         if (bytes == null || bytes.length != entry.getSize()) {
@@ -216,7 +217,7 @@ public class CachingClassLoader extends URLClassLoader {
                 cache.submitDefine(loader, bytes);
             }
             submitted.incrementAndGet();
-        } catch (CacheException | IllegalStateException e) {
+        } catch (CacheException | IllegalStateException | UnsupportedOperationException e) {
             // The next start reads the class from its jar again.
         }
     }

@@ -1,9 +1,13 @@
 package org.cmcache;
 
 import java.io.ByteArrayOutputStream;
+import java.io.UncheckedIOException;
 import java.nio.file.FileSystems;
 import java.nio.file.Path;
+import java.util.ArrayList;
 import java.util.Collection;
+import java.util.Collections;
+import java.util.List;
 import java.util.Objects;
 import java.util.Optional;
 import java.util.concurrent.locks.ReentrantReadWriteLock;
@@ -40,6 +44,9 @@ public final class ClassCache implements AutoCloseable {
     private final Path path;
     private final long handle;
 
+    /** Whether the file is only read: then the handle is that of a view. */
+    private final boolean isView;
+
     /** Calls share it, so that none runs while the cache is closed. */
     private final ReentrantReadWriteLock use = new ReentrantReadWriteLock();
 
@@ -48,9 +55,10 @@ public final class ClassCache implements AutoCloseable {
     /** Once it is closed: the last command that is known to be stored. */
     private long storedAtEnd;
 
-    private ClassCache(Path path, long handle) {
+    private ClassCache(Path path, long handle, boolean isView) {
         this.path = path;
         this.handle = handle;
+        this.isView = isView;
     }
 
     // ---- a file
@@ -65,9 +73,30 @@ public final class ClassCache implements AutoCloseable {
      *     can't be read ({@link CacheException.Device})
      */
     public static ClassCache open(Path path) throws CacheException {
+        return open(path, false);
+    }
+
+    /**
+     * Opens the cache in a file that is there, only to read it. It is open within milliseconds,
+     * since a record is checked when it is first found. Any number of processes may have a file
+     * open so; meanwhile none has it open to write. The file may be where nothing can be written.
+     *
+     * <p>Each command is an {@link UnsupportedOperationException}. The file is read as long as the
+     * cache is open: if somebody cuts it meanwhile, in spite of the lock, or its device fails, the
+     * system ends the process.
+     *
+     * @param path leads to the file, in the default file system
+     * @return the cache, which the caller closes
+     * @throws CacheException as {@link #open(Path)}; BUSY if a process has it open to write
+     */
+    public static ClassCache openReadOnly(Path path) throws CacheException {
+        return open(path, true);
+    }
+
+    private static ClassCache open(Path path, boolean isView) throws CacheException {
         long[] told = new long[Native.MOST_TOLD];
-        check(Native.open(bytes(path), told), path, told);
-        return new ClassCache(path, told[0]);
+        check(Native.open(bytes(path), isView, told), path, told);
+        return new ClassCache(path, told[0], isView);
     }
 
     /**
@@ -179,6 +208,10 @@ public final class ClassCache implements AutoCloseable {
     }
 
     private void closeNow() throws CacheException {
+        if (isView) {
+            Native.closeView(handle);
+            return;
+        }
         long[] told = new long[Native.MOST_TOLD];
         Native.stats(handle, told);
         long accepted = told[0];
@@ -190,6 +223,15 @@ public final class ClassCache implements AutoCloseable {
             throw new CacheException.Unsure(storedAtEnd + 1, accepted);
         }
         check(status, path, told);
+    }
+
+    /** Begins a command; it ends with {@link #leave}. */
+    private void enterToWrite() {
+        enter();
+        if (isView) {
+            leave();
+            throw new UnsupportedOperationException(this + " is only read");
+        }
     }
 
     /** Begins a call; it ends with {@link #leave}. */
@@ -270,7 +312,7 @@ public final class ClassCache implements AutoCloseable {
         Objects.requireNonNull(file, "file");
         long[] told = new long[Native.MOST_TOLD];
         int status;
-        enter();
+        enterToWrite();
         try {
             status = Native.define(handle, loader, file, waits, told);
         } finally {
@@ -329,7 +371,7 @@ public final class ClassCache implements AutoCloseable {
     private long command(int which, String loaders) throws CacheException {
         long[] told = new long[Native.MOST_TOLD];
         int status;
-        enter();
+        enterToWrite();
         try {
             status = Native.command(handle, which, loaders, told);
         } finally {
@@ -407,20 +449,70 @@ public final class ClassCache implements AutoCloseable {
      * @param loader the loader's name
      * @param name the class's name in internal form, as {@code java/lang/Object}
      * @return the record, if the loader is there and has the class
+     * @throws UncheckedIOException with a {@link CacheException} (DAMAGED) if the file is only read
+     *     and what it has by this name isn't the record of a class that keeps the rules
      */
     public Optional<ClassRecord> find(String loader, String name) {
         Objects.requireNonNull(loader, "loader");
         Objects.requireNonNull(name, "name");
-        Object[] head = new Object[1];
-        byte[] runs;
+        Object[] found = new Object[2];
+        int status;
         enter();
         try {
-            runs = Native.find(handle, loader, name, head);
+            status = Native.find(handle, isView, loader, name, found);
         } finally {
             leave();
         }
-        return runs == null ? Optional.empty()
-                : Optional.of(new ClassRecord((long[]) head[0], runs));
+        if (status == OK) {
+            return Optional.of(new ClassRecord((long[]) found[0], (byte[]) found[1]));
+        }
+        checkLookUp(status, name);
+        return Optional.empty();
+    }
+
+    /** Throws what a look-up's status means, unless it is that there is none. */
+    private void checkLookUp(int status, String name) {
+        if (status == NO_MEMORY) {
+            throw new OutOfMemoryError("cmcache: out of memory");
+        }
+        if (status == CacheException.Status.DAMAGED.code()) {
+            throw new UncheckedIOException(CacheException.of(CacheException.Status.DAMAGED,
+                    path + ", " + name));
+        }
+    }
+
+    /**
+     * The loaders, as they are at one moment during the call.
+     *
+     * @return their names, in byte order
+     */
+    public List<String> loaders() {
+        return names(null);
+    }
+
+    /**
+     * The classes of a loader, as they are at one moment during the call.
+     *
+     * @param loader the loader's name
+     * @return their names, in byte order; none if there is no such loader
+     */
+    public List<String> classes(String loader) {
+        return names(Objects.requireNonNull(loader, "loader"));
+    }
+
+    private List<String> names(String loader) {
+        byte[][] found = new byte[1][];
+        int status;
+        enter();
+        try {
+            status = Native.names(handle, isView, loader, found);
+        } finally {
+            leave();
+        }
+        checkLookUp(status, loader);
+        List<String> names = status == OK ? ModifiedUtf8.decodeAll(found[0]) : new ArrayList<>();
+        Collections.sort(names); // a view gives classes in no order
+        return names;
     }
 
     /**
@@ -432,7 +524,11 @@ public final class ClassCache implements AutoCloseable {
         long[] told = new long[Native.MOST_TOLD];
         enter();
         try {
-            Native.stats(handle, told);
+            if (isView) {
+                Native.viewStats(handle, told);
+            } else {
+                Native.stats(handle, told);
+            }
         } finally {
             leave();
         }

@@ -1,6 +1,8 @@
 package org.cmcache;
 
 import java.nio.charset.StandardCharsets;
+import java.util.ArrayList;
+import java.util.List;
 
 /** The spelling of strings in class files (JVMS 4.4.7). */
 final class ModifiedUtf8 {
@@ -18,6 +20,19 @@ final class ModifiedUtf8 {
     static String decode(byte[] bytes, int at, int length) {
         String text = new String(bytes, at, length, StandardCharsets.UTF_8);
         return text.indexOf(REPLACED) < 0 ? text : decodeUnits(bytes, at, length);
+    }
+
+    /** The strings of bytes that have a 0 behind each of them. */
+    static List<String> decodeAll(byte[] bytes) {
+        List<String> texts = new ArrayList<>();
+        int from = 0;
+        for (int at = 0; at < bytes.length; at++) {
+            if (bytes[at] == 0) {
+                texts.add(decode(bytes, from, at - from));
+                from = at + 1;
+            }
+        }
+        return texts;
     }
 
     private static String decodeUnits(byte[] bytes, int at, int length) {

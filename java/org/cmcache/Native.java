@@ -78,9 +78,11 @@ final class Native {
 
     static native int format(byte[] path, int top, int roots, int slots, long[] told);
 
-    static native int open(byte[] path, long[] told);
+    static native int open(byte[] path, boolean isView, long[] told);
 
     static native int close(long cache, long[] told);
+
+    static native void closeView(long view);
 
     static native int command(long cache, int which, String loaders, long[] told);
 
@@ -90,11 +92,14 @@ final class Native {
 
     static native int stored(long cache, long[] told);
 
-    /**
-     * The runs of a class's record, or null if there is none; what stands before them is put into
-     * {@code head[0]}.
-     */
-    static native byte[] find(long cache, String loader, String name, Object[] head);
+    /** The words of a class's record: found[0] has those before its runs, found[1] the runs. */
+    static native int find(long handle, boolean isView, String loader, String name,
+            Object[] found);
+
+    /** The names of a loader's classes, or if it is null of the loaders, a 0 behind each. */
+    static native int names(long handle, boolean isView, String loader, byte[][] names);
+
+    static native int viewStats(long view, long[] told);
 
     static native int stats(long cache, long[] told);
 }

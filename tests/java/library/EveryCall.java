@@ -1,5 +1,7 @@
 import java.io.IOException;
+import java.io.InputStream;
 import java.io.RandomAccessFile;
+import java.io.UncheckedIOException;
 import java.net.URI;
 import java.nio.ByteBuffer;
 import java.nio.ReadOnlyBufferException;
@@ -12,6 +14,7 @@ import java.util.Arrays;
 import java.util.Collections;
 import java.util.List;
 import java.util.Optional;
+import java.util.zip.GZIPInputStream;
 import org.cmcache.Attribute;
 import org.cmcache.CacheException;
 import org.cmcache.CacheException.BadClass.Spot;
@@ -100,8 +103,9 @@ final class EveryCall {
     }
 
     private static void refusesFiles() throws Exception {
-        device("no file", 2, () -> ClassCache.open(path("none")));
-        device("no folder", 2, () -> ClassCache.open(path("none/none"), SMALL));
+        refused("no file", Status.NO_FILE, () -> ClassCache.open(path("none")));
+        refused("no file to read", Status.NO_FILE, () -> ClassCache.openReadOnly(path("none")));
+        refused("no folder", Status.NO_FILE, () -> ClassCache.open(path("none/none"), SMALL));
         refused("a folder", Status.NOT_REGULAR, () -> ClassCache.open(folder));
         refused("a folder to be made", Status.NOT_REGULAR, () -> ClassCache.open(folder, SMALL));
         refused("a device", Status.NOT_REGULAR, () -> ClassCache.open(Paths.get("/dev/null")));
@@ -174,8 +178,10 @@ final class EveryCall {
                 "it is truncated");
         bad("a byte more", Arrays.copyOf(A, A.length + 1), Why.TRAILING, 0, null, A.length,
                 "it ends before byte " + A.length);
-        bad("another version", changed(7, 0x35), Why.MALFORMED, 0, null, 7,
-                "byte 7 is none of a class file of version 52.0");
+        bad("another version", changed(7, 0x35), Why.OTHER_VERSION, 0, null, 53 << 16,
+                "it is of version 53.0, and not of 52.0");
+        bad("no class file", changed(0, 0), Why.MALFORMED, 0, null, 0,
+                "byte 0 is none of a class file");
         bad("a Class that names a Class", changed(12, 3), Why.RULE, 2, Spot.POOL, 1,
                 "it breaks rule 2 at pool 1");
         bad("an interface that isn't abstract", changed(39, 2), Why.RULE, 10, Spot.THIS, 0,
@@ -322,6 +328,127 @@ final class EveryCall {
         }
     }
 
+    // ---- listing, and files that are only read
+
+    private static void lists() throws Exception {
+        Path path = path("listed");
+        try (ClassCache cache = fresh("listed")) {
+            CHECKS.equal("no loaders", Collections.emptyList(), cache.loaders());
+            for (String loader : Arrays.asList("ext", "app", "empty")) {
+                cache.addLoader(loader);
+            }
+            for (String name : Arrays.asList("p/B", "A", "p/A", "\ud83d\ude00", "\u00e4")) {
+                cache.submitDefine("app", Samples.named(name));
+            }
+            cache.submitDefine("ext", A);
+            isListed(cache);
+            CHECKS.threw("null", NullPointerException.class, () -> cache.classes(null));
+            refusedToRead("open to write", Status.BUSY, path);
+        }
+        try (ClassCache cache = ClassCache.openReadOnly(path);
+                ClassCache other = ClassCache.openReadOnly(path)) {
+            isListed(cache);
+            isListed(other);
+            isRead(cache);
+            refused("to write while it is read", Status.BUSY, () -> ClassCache.open(path));
+        }
+        ClassCache closed = ClassCache.openReadOnly(path);
+        closed.close();
+        closed.close();
+        for (Checks.Call call : Arrays.<Checks.Call>asList(closed::loaders,
+                () -> closed.classes("app"), () -> closed.find("app", "A"), closed::stats,
+                () -> closed.addLoader("new"))) {
+            CHECKS.threw("closed, only read", IllegalStateException.class, call);
+        }
+        CHECKS.threw("no path to read", NullPointerException.class,
+                () -> ClassCache.openReadOnly(null));
+    }
+
+    private static void readsOthers() throws Exception {
+        refusedToRead("a folder to read", Status.NOT_REGULAR, folder);
+        refusedToRead("no bytes to read", Status.NOT_A_CACHE, path("empty"));
+        CacheException.Damaged thrown = CHECKS.threw("a head to read",
+                CacheException.Damaged.class, () -> ClassCache.openReadOnly(path("head")));
+        CHECKS.that("which is damaged", thrown != null && thrown.what() == What.HEAD);
+        Path older = path("older");
+        try (InputStream from = new GZIPInputStream(
+                Files.newInputStream(Paths.get("tests/data/older_full.gz")))) {
+            Files.copy(from, older);
+        }
+        List<String> loaders;
+        try (ClassCache cache = ClassCache.openReadOnly(older)) {
+            loaders = cache.loaders();
+            CHECKS.that("a file of version 1 has loaders", !loaders.isEmpty());
+        }
+        try (ClassCache cache = ClassCache.open(older)) {
+            CHECKS.equal("the same once it is upgraded", loaders, cache.loaders());
+        }
+    }
+
+    /** A record that isn't one any more: a cache isn't opened, and of a view it isn't found. */
+    private static void findsDamage() throws Exception {
+        Path path = path("record");
+        try (ClassCache cache = fresh("record")) {
+            cache.addLoader("app");
+            cache.define("app", A);
+            cache.define("app", Samples.named("B"));
+        }
+        byte[] file = Files.readAllBytes(path);
+        byte[] head = {0x10, 0, 0, 0, 0, 0, 0, 0, 0x21, 0, 1, 0, 3, 0};
+        int at = 4096;
+        while (!Arrays.equals(head, Arrays.copyOfRange(file, at, at + head.length))) {
+            at += 8;
+        }
+        file[at + 24] = 9; // where the directory begins
+        Files.write(path, file);
+        CacheException.Damaged thrown = CHECKS.threw("a damaged record",
+                CacheException.Damaged.class, () -> ClassCache.open(path));
+        CHECKS.that("is named", thrown != null && thrown.what() == What.RECORD);
+        try (ClassCache cache = ClassCache.openReadOnly(path)) {
+            UncheckedIOException found = CHECKS.threw("and isn't found",
+                    UncheckedIOException.class, () -> cache.find("app", "A"));
+            CHECKS.that("as it is damaged", found != null
+                    && ((CacheException) found.getCause()).status() == Status.DAMAGED);
+            CHECKS.that("the other one is", cache.find("app", "B").isPresent());
+            CHECKS.equal("both are listed", Arrays.asList("A", "B"), cache.classes("app"));
+        }
+    }
+
+    private static void refusedToRead(String name, Status status, Path path) {
+        refused(name, status, () -> ClassCache.openReadOnly(path));
+    }
+
+    private static void isListed(ClassCache cache) {
+        CHECKS.equal("loaders", Arrays.asList("app", "empty", "ext"), cache.loaders());
+        CHECKS.equal("classes", Arrays.asList("A", "p/A", "p/B", "\u00e4", "\ud83d\ude00"),
+                cache.classes("app"));
+        CHECKS.equal("others", Arrays.asList("A"), cache.classes("ext"));
+        CHECKS.equal("none", Collections.emptyList(), cache.classes("empty"));
+        for (String wrong : Arrays.asList("none", "", "a b",
+                String.join("", Collections.nCopies(70000, "a")))) {
+            CHECKS.equal("no such loader", Collections.emptyList(), cache.classes(wrong));
+        }
+        for (String name : cache.classes("app")) {
+            CHECKS.that("found: " + name, Arrays.equals(Samples.named(name),
+                    cache.find("app", name).get().classFile()));
+        }
+    }
+
+    private static void isRead(ClassCache cache) {
+        CHECKS.equal("nothing else is found", Optional.empty(), cache.find("app", "B"));
+        CHECKS.that("stats", cache.stats().stored() == 9 && cache.stats().accepted() == 9
+                && cache.stats().slots() == 0);
+        List<Checks.Call> calls = Arrays.asList(() -> cache.addLoader("a"),
+                () -> cache.ensureLoader("app"), () -> cache.define("app", A),
+                () -> cache.submitDefine("app", A), () -> cache.unload("app"),
+                () -> cache.unloadAll(Collections.singleton("app")), () -> cache.tighten("app"));
+        for (Checks.Call call : calls) {
+            CHECKS.threw("only read " + calls.indexOf(call), UnsupportedOperationException.class,
+                    call);
+        }
+        nulls(cache);
+    }
+
     // ---- after close
 
     private static void isOfNoUseOnceClosed() throws Exception {
@@ -334,7 +461,8 @@ final class EveryCall {
                 () -> cache.ensureLoader("a"), () -> cache.define("app", A),
                 () -> cache.submitDefine("app", A), () -> cache.unload("app"),
                 () -> cache.unloadAll(Collections.singleton("app")), () -> cache.tighten("app"),
-                () -> cache.find("app", "A"), cache::stats);
+                () -> cache.find("app", "A"), cache::stats, cache::loaders,
+                () -> cache.classes("app"));
         for (Checks.Call call : calls) {
             IllegalStateException thrown = CHECKS.threw("closed " + calls.indexOf(call),
                     IllegalStateException.class, call);
@@ -472,6 +600,9 @@ final class EveryCall {
         checksNames();
         unloadsSeveral();
         runsOutOfRoom();
+        lists();
+        readsOthers();
+        findsDamage();
         isOfNoUseOnceClosed();
         readsRecords();
         CHECKS.finish();

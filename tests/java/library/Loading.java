@@ -149,6 +149,10 @@ final class Loading {
                 CHECKS.equal("nothing is submitted", 0, caching.submitted());
             }
         }
+        fresh("read").close();
+        try (ClassCache cache = ClassCache.openReadOnly(folder.resolve("read"))) {
+            same("a cache that is only read", cache, 0, 0, Arrays.asList("p.A"), jar);
+        }
         ClassCache full = ClassCache.open(folder.resolve("full"),
                 ClassCache.Options.create().roots(3, 1).slots(256));
         full.addLoader("app");

@@ -55,8 +55,8 @@ final class Processes {
         }
     }
 
-    private static void hold(Path path) throws IOException {
-        try (ClassCache cache = ClassCache.open(path)) {
+    private static void hold(Path path, boolean reads) throws IOException {
+        try (ClassCache cache = reads ? ClassCache.openReadOnly(path) : ClassCache.open(path)) {
             System.out.println("open");
             System.in.read();
         }
@@ -112,6 +112,16 @@ final class Processes {
         CHECKS.equal("the other ends", 0, other.waitFor());
         ClassCache.open(path).close();
         CHECKS.that("then it is free", true);
+        other = builder("read", path.toString()).start();
+        CHECKS.that("another JVM reads it", other.getInputStream().read() == 'o');
+        try (ClassCache cache = ClassCache.openReadOnly(path)) {
+            CHECKS.that("and this one too", cache.loaders().isEmpty());
+        }
+        thrown = CHECKS.threw("but none writes", CacheException.class,
+                () -> ClassCache.open(path));
+        CHECKS.that("as it is busy for that", thrown != null && thrown.status() == Status.BUSY);
+        other.getOutputStream().close();
+        CHECKS.equal("the other reader ends", 0, other.waitFor());
     }
 
     public static void main(String[] words) throws Exception {
@@ -119,8 +129,8 @@ final class Processes {
             firstStart(Paths.get(words[1]));
             return;
         }
-        if (words[0].equals("hold")) {
-            hold(Paths.get(words[1]));
+        if (words[0].equals("hold") || words[0].equals("read")) {
+            hold(Paths.get(words[1]), words[0].equals("read"));
             return;
         }
         Path folder = Paths.get(words[0]);
