@@ -486,6 +486,16 @@ static inline void cmcache_release_record(cmcache_record *record)
     cmcore_release(&record->handle);
 }
 
+/* ---- whether jars have changed */
+
+/* The tag of class files, jars and folders, in the order of a class path: 16 hexadecimal digits and
+ * a zero. cm_import --tag puts it behind a loader's name and an `@`, so a server that asks for
+ * NAME@TAG finds the classes of the files as they are now, or no loader (docs/FRESH.md). Of a jar
+ * only the directory is read. Folders are searched as cm_import does. OK; DEVICE if a file or
+ * folder can't be read, NOT_REGULAR if a path is something else, TOO_LONG, NO_MEMORY. A file that
+ * somebody cuts meanwhile has the system send SIGBUS. */
+int32_t cmcache_tag(const char *const *paths, size_t count, char tag[17]);
+
 #ifdef __cplusplus
 }
 #endif

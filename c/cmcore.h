@@ -387,6 +387,20 @@ int32_t cmcore_words_nested_attribute(const uint64_t *words, size_t count,
 int32_t cmcore_words_class_file(const uint64_t *words, size_t count, uint8_t *out, size_t size,
                                 size_t *len);
 
+/* ---- the tag of files; docs/FRESH.md says what is hashed */
+
+/* The digest of the files that were added so far; {0} is that of none. */
+typedef struct {
+    uint8_t bytes[32];
+} cmcore_tag;
+
+/* Adds a class file. OK. */
+int32_t cmcore_tag_class(const uint8_t *bytes, size_t len, cmcore_tag *tag);
+
+/* Adds a jar, of which only the directory is read; or another file, of which all bytes are. OK, and
+ * NO_MEMORY: the digest is as it was. */
+int32_t cmcore_tag_jar(const uint8_t *bytes, size_t len, cmcore_tag *tag);
+
 /* ---- any handle */
 
 /* Empties a handle, and gives back its memory. What a cache accepted and the caller wasn't told to

@@ -153,6 +153,96 @@ def never_stale(bench):
                line(0, there=32, number=32), 0)
 
 
+def replaced(bench):
+    """--replace and --dry-run: a class that changed, came, went, or has another name."""
+    names = [f"p/C{at}" for at in range(5)]
+    was = [(f"{name}.class", class_bytes(name, 8)) for name in names]
+    jar, path = bench.path("replaced.jar"), bench.new_path()
+    make_jar(jar, was)
+    bench.run(path, "app", jar, "--new")
+    bench.run(path, "ext", jar)
+    number, held = 12, names
+    steps = (("nothing changed", was, (0, 5, 0, 0)),
+             ("a class changed", [*was[:4], (was[4][0], class_bytes(names[4], 9))], (0, 4, 1, 0)),
+             ("one was added", [*was, ("New.class", class_bytes("New"))], (1, 4, 1, 0)),
+             ("one was removed", was[1:], (0, 4, 0, 2)),
+             ("one was renamed", [*was[1:4], ("q/D.class", class_bytes("q/D"))], (1, 3, 0, 1)),
+             ("only added", [*was[1:4], ("q/D.class", class_bytes("q/D")),
+                             ("E.class", class_bytes("E"))], (1, 4, 0, 0)))
+    for name, contents, (new, there, changed, gone) in steps:
+        make_jar(jar, contents)
+        before = harness.read(path)
+        told = f"new {new} there {there} changed {changed} gone {gone} skipped 0 refused 0"
+        got = bench.run(path, "app", jar, "--dry-run")
+        bench.checks.check(f"{name}: --dry-run", got[:2] == (
+            [f"would import {told}".encode()], 1 if changed else 0), f"{got}")
+        anew = changed + gone > 0
+        verb = "replace" if anew else "import"
+        got = bench.run(path, "app", jar, "--dry-run", "--replace")
+        bench.checks.check(f"{name}: --dry-run --replace", got[:2] == (
+            [f"would {verb} {told}".encode()], 0), f"{got}")
+        bench.checks.check(f"{name}: nothing was done", harness.read(path) == before)
+        unloaded = [f"unloaded number {number + 1}".encode()] if anew else []
+        count = len(contents) if anew else new
+        number += count + 2 * anew
+        got = bench.run(path, "app", jar, "--replace")
+        bench.checks.check(f"{name}: --replace", got == (
+            [*unloaded, line(count, there=0 if anew else there, number=number)], 0, ""), f"{got}")
+        held = [inner.removesuffix(".class") for inner, _ in contents]
+        bench.holds(f"{name}: the file", path, b"app", held)
+        bench.holds(f"{name}: another loader", path, b"ext", names)
+        bench.checks.check(f"{name}: as the paths have them", same_records(path, contents))
+        got = bench.run(path, "app", jar, "--replace")
+        bench.says(f"{name}: once more", got, line(0, there=len(contents), number=number), 0)
+    make_jar(jar, was)
+    before = harness.read(path)
+    got = bench.run(path, "app", jar, bench.path("missing"), "--replace")
+    bench.checks.check("a path is missing", got[1] == 1 and "isn't made anew" in got[2] and
+                       not any(b"unloaded" in text for text in got[0]), f"{got}")
+    bench.holds("a path is missing: the file", path, b"app", set(held) | set(names))
+
+
+def same_records(path, contents):
+    """Whether the loader `app` has these very classes."""
+    found = region.read(path).state().get(b"app", {})
+    return all(found.get(name.removesuffix(".class").encode()) ==
+               list(oracle.prepare(data).words) for name, data in contents)
+
+
+def replaced_and_killed(bench, jar, names, count, rng):
+    """A loader that is being made anew and is killed: it has what it had, or a beginning of the
+    new classes, and the next run completes it."""
+    old, new = bench.path("before.jar"), bench.path("after.jar")
+    contents = [(f"{name}.class", class_bytes(name, 40)) for name in names]
+    make_jar(old, [(f"{name}.class", class_bytes(name, 8)) for name in names])
+    make_jar(new, contents)
+    start_file = bench.new_path()
+    bench.run(start_file, "app", old, "--new")
+    data = harness.read(start_file)
+    start = time.monotonic()
+    bench.run(start_file, "app", new, "--replace", "--workers", "1")
+    whole = time.monotonic() - start
+    ends = set()
+    for turn in range(count):
+        path = bench.new_path()
+        harness.write(path, data)
+        harness.killed([bench.importer, path, "app", new, "--replace"], b"", rng.uniform(0, whole))
+        found = region.read(path).state().get(b"app", {})
+        right = {name.encode(): list(oracle.prepare(inner).words)
+                 for name, (_, inner) in zip(names, contents)}
+        is_new = sorted(found) == [name.encode() for name in names[:len(found)]] and all(
+            found[name] == right[name] for name in found)
+        is_old = harness.read(path) == data or (len(found) == len(names) and not any(
+            found[name] == right[name] for name in found))
+        ends.add("old" if is_old else "all" if len(found) == len(names) else "beginning")
+        bench.checks.check(f"killed {turn}", is_new or is_old, f"{len(found)} classes")
+        got = bench.run(path, "app", new, "--replace")
+        bench.checks.check(f"killed {turn}: the next run", got[1:] == (0, "") and
+                           same_records(path, contents), f"{got}")
+        os.remove(path)
+    bench.checks.check("some kills hit", count == 0 or ends != {"all"}, f"{ends}")
+
+
 def readme(bench):
     """The command of README.md, which imports a jar of examples/."""
     with open("README.md", encoding="utf-8") as file:
@@ -174,6 +264,11 @@ def not_imported(bench):
     bench.says("versions, and a class that is cut", got, line(1, 1, 3, 1, 2), 1,
                ["Cut.class: refused 14 truncated", "skipped 2 of version 61.0",
                 "skipped 1 of version 50.0"])
+    newer = bench.path("newer.jar")
+    make_jar(newer, [("A.class", of_version(good, 61))])
+    bench.says("newer classes alone", bench.run(bench.new_path(), "app", newer, "--new"),
+               line(0, skipped=1, number=1), 0,
+               ["skipped 1 of version 61.0", "no class of version 52.0 was found"])
     many = bench.path("many.jar")
     make_jar(many, [(f"{at:02}.class", broken) for at in range(25)])
     got = bench.run(path, "app", many)
@@ -203,6 +298,49 @@ def not_imported(bench):
     bench.says("links", bench.run(path, "app", folder, "--new"), line(2, 1, 0, 0, 3), 1,
                ["Gone.class: "])
     bench.holds("links: the file", path, b"app", ["A", "B"])
+
+
+def overlapping(data, count):
+    """The jar of one entry with this many headers in its directory, all of that entry."""
+    end = data.rindex(b"PK\x05\x06")
+    at = int.from_bytes(data[end + 16:end + 20], "little")
+    directory = data[at:end] * count
+    return (data[:at] + directory + data[end:end + 8] + count.to_bytes(2, "little") * 2 +
+            len(directory).to_bytes(4, "little") + data[end + 16:])
+
+
+def hostile(bench):
+    """Jars that would take long, names that a terminal obeys, files that are too large, jars in
+    jars: each has its line, and the import goes on."""
+    good, jar, many = bench.path("good.jar"), bench.path("zeros.jar"), bench.path("overlap.jar")
+    make_jar(good, [("Good.class", class_bytes("Good"))])
+    make_jar(jar, [("A.class", bytes(oracle.LINE_LIMIT))])
+    harness.write(many, overlapping(harness.read(jar), 1000))
+    start = time.monotonic()
+    got = bench.run(bench.new_path(), "app", many, good, "--new")
+    bench.says("overlapping entries", got, line(1, number=2), 1, [f"{many}: its entries overlap"])
+    taken = time.monotonic() - start
+    bench.checks.check("overlapping entries: the time", taken < 20, f"{taken}")
+    harness.write(many, overlapping(harness.read(good), 3))
+    got = bench.run(bench.new_path(), "app", many, "--new")
+    bench.says("an entry that is listed three times", got, line(1, there=2, number=2), 0)
+    folder, name = bench.path("odd"), "B\x1b[2J\nimported 9\x7f\u0085.class"
+    cut = class_bytes("Cut")[:-1]
+    make_folder(folder, [("Large.class", bytes(oracle.LINE_LIMIT + 1)), ("Good.class",
+                         class_bytes("Good")), (name, cut)])
+    make_jar(f"{folder}/odd.jar", [(name, cut), ("C.class", class_bytes("C"))])
+    got = bench.run(bench.new_path(), "app", folder, "--new")
+    shown = "B%1B[2J%0Aimported 9%7F%C2%85.class: refused 14"
+    bench.says("odd names and a large file", got, line(2, refused=2, number=3), 1,
+               ["Large.class: ", f"odd/{shown}", f"odd.jar: {shown}"])
+    bench.checks.check("nothing that a terminal obeys", got[2].replace("\n", "").isprintable(),
+                       f"{got[2]!r}")
+    nested = bench.path("nested.jar")
+    make_jar(nested, [("BOOT-INF/lib/a.jar", harness.read(good)), ("A.class", class_bytes("A")),
+                      ("WEB-INF/lib/b.jar", harness.read(good))])
+    got = bench.run(bench.new_path(), "app", nested, good, "--new")
+    bench.says("jars in a jar", got, line(2, number=3), 1,
+               [f"{nested}: jars in it aren't read: 2"])
 
 
 def words(bench, jar):
@@ -247,6 +385,13 @@ def full(bench, jar, names):
     path = bench.new_path()
     bench.run(path, "app", jar, "--new", "--slots", "256")
     bench.holds("a full journal: the file", path, b"app", names[:127])
+    got = bench.run("--memory", jar)
+    bench.checks.check("the sizes, without a file", got[1] == 0 and got[2] == "" and
+                       len(got[0]) == 1, f"{got}")
+    sizes = [word.decode() for word in b" ".join(got[0]).split()]
+    bench.says("a file of these sizes", bench.run(bench.new_path(), "app", jar, "--new", *sizes),
+               line(len(names), number=len(names) + 1), 0)
+    bench.checks.check("sizes of no path", bench.run("--memory")[1] == 2)
 
 
 def kills(bench, jar, names, count, rng):
@@ -270,6 +415,37 @@ def kills(bench, jar, names, count, rng):
                    line(len(names) - len(found), there=len(found), number=len(names) + 1), 0)
         os.remove(path)
     bench.checks.check("some kills hit", hit > 0 or count == 0)
+
+
+def kills_of_new(bench, jar, names, count, rng):
+    """A run with --new that is killed leaves a cache under the file's name, or nothing: the next
+    run makes it, or goes on without --new."""
+    start = time.monotonic()
+    bench.run(bench.new_path(), "app", jar, "--new", "--workers", "1")
+    whole, made = time.monotonic() - start, 0
+    for turn in range(count):
+        path = bench.new_path()
+        harness.killed([bench.importer, path, "app", jar, "--new"], b"",
+                       rng.uniform(0, whole / 2 if turn % 2 else whole))
+        words = [path, "app", jar] if os.path.exists(path) else [path, "app", jar, "--new"]
+        made += os.path.exists(path)
+        got = bench.run(*words)
+        bench.checks.check(f"--new, killed {turn}", got[1] == 0 and
+                           got[0][-1].endswith(f"number {len(names) + 1}".encode()), f"{got}")
+        bench.holds(f"--new, killed {turn}: the file", path, b"app", names)
+        os.remove(path)
+    # What such a run leaves under the other name is no cache yet.
+    path = bench.new_path()
+    harness.write(f"{path}.new", b"\0" * 4096)
+    bench.says("a file that isn't whole", bench.run(path, "app", jar, "--new"),
+               line(len(names), number=len(names) + 1), 0)
+    bench.checks.check("it is gone", not os.path.exists(f"{path}.new"))
+    got = bench.run(path, "app", jar, "--new")
+    bench.says("a whole file", got, b"exists", 1, ["leave --new out to continue"])
+    path = bench.new_path()
+    got = bench.run(path, "a name", jar, "--new")
+    bench.checks.check("a refused name leaves no file", got[:2] == ([b"refused 1 name"], 1) and
+                       not os.path.exists(path), f"{got}")
 
 
 def listed(path):
@@ -359,11 +535,15 @@ def main(arguments):
         readme(bench)
         jar, names = usual(bench)
         never_stale(bench)
+        replaced(bench)
         not_imported(bench)
+        hostile(bench)
         words(bench, jar)
         full(bench, jar, names)
         damaged_jars(bench, jar, names, 2 * int(count), rng)
         kills(bench, jar, names, int(count), rng)
+        kills_of_new(bench, jar, names, int(count), rng)
+        replaced_and_killed(bench, jar, names, int(count), rng)
         device(bench, 2 * A_GROUP + 2)
         return bench.checks.finish()
 

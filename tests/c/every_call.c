@@ -181,6 +181,29 @@ static void refuses_files(void)
     CHECK(cache == NULL);
 }
 
+/* Tags as Python's hashlib has them, of the text that docs/FRESH.md describes. */
+static void tags_files(void)
+{
+    char tag[17] = "as before";
+    const char *paths[] = {path_of("A.class"), path_of("empty")};
+    const char *missing = path_of("none"), *pipe_path = path_of("pipe");
+    int file = open(paths[0], O_CREAT | O_RDWR, 0600);
+    CHECK(write(file, class_a, sizeof class_a) == (ssize_t)sizeof class_a);
+    close(file);
+    EXPECT(CMCACHE_DEVICE, cmcache_tag(&missing, 1, tag));
+    EXPECT(ENOENT, errno);
+    EXPECT(CMCACHE_NOT_REGULAR, cmcache_tag(&pipe_path, 1, tag));
+    if (truncate(paths[1], ((off_t)1 << 40) + 1) == 0)
+        EXPECT(CMCORE_TOO_LONG, cmcache_tag(paths, 2, tag));
+    CHECK(truncate(paths[1], 0) == 0 && !strcmp(tag, "as before"));
+    EXPECT(CMCORE_OK, cmcache_tag(NULL, 0, tag));
+    CHECK(!strcmp(tag, "0000000000000000"));
+    EXPECT(CMCORE_OK, cmcache_tag(paths, 1, tag));
+    CHECK(!strcmp(tag, "64e61e384fccb8d7"));
+    EXPECT(CMCORE_OK, cmcache_tag(paths, 2, tag));
+    CHECK(!strcmp(tag, "3bac6b0ca5315bd0"));
+}
+
 /* What another process gets that opens the file. */
 static int32_t opened_elsewhere(const char *path)
 {
@@ -743,6 +766,7 @@ int main(int count, char **words)
     snprintf(folder, sizeof folder, "%s", words[1]);
     makes_files();
     refuses_files();
+    tags_files();
     locks_files();
     prepares_classes();
     reads_records();

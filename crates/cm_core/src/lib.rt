@@ -14,6 +14,7 @@ mod parts;
 mod places;
 mod record;
 mod status;
+mod tag;
 mod views;
 
 pub use handle::Handle;

@@ -19,6 +19,18 @@ const NEW: &str = "new";
 
 const WORKERS: &str = "workers";
 
+const TAG: &str = "tag";
+
+const KEEP: &str = "keep";
+
+const REPLACE: &str = "replace";
+
+const DRY_RUN: &str = "dry-run";
+
+const PRINT_TAG: &str = "print-tag";
+
+const MEMORY: &str = "memory";
+
 /// The most threads that prepare classes.
 const MOST_WORKERS: u32 = 16;
 
@@ -35,8 +47,21 @@ pub struct Wanted {
 pub enum Request {
     /// To import classes.
     Import(Import),
+    /// To print the tag of what these paths hold.
+    PrintTag(Vec<String>),
+    /// To say which sizes of a file hold the classes of these paths.
+    Sizes(Vec<String>, NonZeroUsize),
     /// Nothing more: the help or a usage text was printed. The status to end with.
     Printed(Status),
+}
+
+/// What becomes of loaders of the same name with another tag.
+#[derive(Clone, Copy, Debug, PartialEq, Eq)]
+pub enum Others {
+    /// They are unloaded once all is imported.
+    Unloaded,
+    /// They stay.
+    Kept,
 }
 
 /// To import what the paths hold into a loader of a file's cache.
@@ -49,6 +74,12 @@ pub struct Import {
     pub new: Option<Wanted>,
     /// How many threads prepare classes.
     pub workers: NonZeroUsize,
+    /// That the tag of what the paths hold stands after the loader's name.
+    pub tag: Option<Others>,
+    /// That the loader is made anew if it has a class that the paths don't have.
+    pub replaces: bool,
+    /// That nothing is done, and only said what would be.
+    pub is_dry: bool,
 }
 
 fn word<'a>(alloc: Global, name: &'a str, help: &'a str) -> Arg<'a> {
@@ -70,24 +101,33 @@ fn size<'a>(alloc: Global, number: Number, help: &'a str) -> Result<Arg<'a>, All
         .requires_arg(NEW)
 }
 
-fn whole_command<'a>(alloc: Global) -> Result<Command<'a>, AllocError> {
-    let new = Arg::new(alloc, NEW)
-        .long(NEW)
-        .help("Make FILE first, with an empty cache; it must not exist")
-        .action(ArgAction::SetTrue);
-    let workers = Arg::new(alloc, WORKERS)
-        .long(WORKERS)
-        .value_name("N")
-        .help("The threads that prepare classes [default: the processors]")
+/// A word that is there or not.
+fn flag<'a>(alloc: Global, name: &'a str, help: &'a str) -> Arg<'a> {
+    Arg::new(alloc, name)
+        .long(name)
+        .help(help)
+        .action(ArgAction::SetTrue)
+}
+
+/// Something else that is done with paths.
+fn alone<'a>(alloc: Global, name: &'a str, help: &'a str) -> Arg<'a> {
+    Arg::new(alloc, name)
+        .long(name)
+        .value_name(PATHS)
+        .num_args(1..)
+        .help(help)
         .action(ArgAction::Set)
-        .value_parser(value_parser!(u32).range(1..=i64::from(MOST_WORKERS)));
-    Command::new(alloc, "cm_import")
-        .about("Import the classes of files, folders and jars into a loader of a cache file")
-        .bin_name("cm_import")?
-        .arg(word(alloc, FILE, "The cache file"))?
-        .arg(word(alloc, LOADER, "The loader; it is added if it isn't there"))?
-        .arg(word(alloc, PATHS, "Class files, folders and jars").num_args(1..))?
-        .arg(new)?
+        .exclusive(true)
+}
+
+/// With which sizes a new file is made.
+fn with_sizes<'a>(alloc: Global, command: Command<'a>) -> Result<Command<'a>, AllocError> {
+    command
+        .arg(flag(
+            alloc,
+            NEW,
+            "Make FILE first, with an empty cache; it must not exist",
+        ))?
         .arg(size(
             alloc,
             TOP,
@@ -102,8 +142,57 @@ fn whole_command<'a>(alloc: Global) -> Result<Command<'a>, AllocError> {
             alloc,
             SLOTS,
             "With --new: the slots in each half of the journal",
-        )?)?
-        .arg(workers)
+        )?)
+}
+
+/// What is done with a loader that is there.
+fn with_changes<'a>(alloc: Global, command: Command<'a>) -> Result<Command<'a>, AllocError> {
+    let replace = flag(
+        alloc,
+        REPLACE,
+        "Make the loader anew if a class of it changed or is gone",
+    );
+    let dry_run = flag(alloc, DRY_RUN, "Change nothing, and say what would be done");
+    let tag = flag(
+        alloc,
+        TAG,
+        "Put @ and the tag of the paths after LOADER; then unload other tags",
+    );
+    let keep = flag(alloc, KEEP, "With --tag: keep the loaders of other tags");
+    command
+        .arg(replace)?
+        .arg(dry_run.conflicts_with(NEW)?)?
+        .arg(tag.conflicts_with(REPLACE)?)?
+        .arg(keep.requires_arg(TAG)?)
+}
+
+fn whole_command<'a>(alloc: Global) -> Result<Command<'a>, AllocError> {
+    let workers = Arg::new(alloc, WORKERS)
+        .long(WORKERS)
+        .value_name("N")
+        .help("The threads that prepare classes [default: the processors]")
+        .action(ArgAction::Set)
+        .value_parser(value_parser!(u32).range(1..=i64::from(MOST_WORKERS)));
+    let print_tag = alone(
+        alloc,
+        PRINT_TAG,
+        "Print the tag of the paths, and do nothing else",
+    );
+    let memory = alone(
+        alloc,
+        MEMORY,
+        "Print which sizes hold the classes of the paths, without a file",
+    );
+    let command = Command::new(alloc, "cm_import")
+        .about("Import the classes of files, folders and jars into a loader of a cache file")
+        .bin_name("cm_import")?
+        .arg(word(alloc, FILE, "The cache file"))?
+        .arg(word(alloc, LOADER, "The loader; it is added if it isn't there"))?
+        .arg(word(alloc, PATHS, "Class files, folders and jars").num_args(1..))?;
+    with_changes(alloc, with_sizes(alloc, command)?)?
+        .arg(workers)?
+        .arg(print_tag)?
+        .arg(memory)
 }
 
 /// Prints the help, or what is wrong with the words.
@@ -125,28 +214,65 @@ where
         return print_instead(rt, &text);
     };
     match command.try_get_matches_from(words.as_slice()) {
-        Ok(matches) => Ok(Request::Import(import_of(rt, &matches)?)),
+        Ok(matches) => Ok(request_of(rt, &matches)?),
         Err(text) => print_instead(rt, &text),
     }
 }
 
+/// The words of an argument.
+fn words_of(alloc: Global, given: &ArgMatches<'_>, name: &str) -> Result<Vec<String>, AllocError> {
+    let mut words = Vec::new(alloc);
+    for word in given.get_strs(name).unwrap_or(&[]) {
+        words.push(String::from_str(alloc, word)?)?;
+    }
+    Ok(words)
+}
+
 /// What words ask for that `clap` took.
+fn request_of<R>(rt: &R, given: &ArgMatches<'_>) -> Result<Request, AllocError>
+where
+    R: AllocGlobal + Threads,
+{
+    let tagged = words_of(rt.alloc(), given, PRINT_TAG)?;
+    let sized = words_of(rt.alloc(), given, MEMORY)?;
+    if !tagged.is_empty() {
+        Ok(Request::PrintTag(tagged))
+    } else if !sized.is_empty() {
+        Ok(Request::Sizes(sized, workers_of(rt, given)))
+    } else {
+        Ok(Request::Import(import_of(rt, given)?))
+    }
+}
+
+/// Which import words ask for.
 fn import_of<R>(rt: &R, given: &ArgMatches<'_>) -> Result<Import, AllocError>
 where
     R: AllocGlobal + Threads,
 {
     let alloc = rt.alloc();
-    let mut paths = Vec::new(alloc);
-    for path in given.get_strs(PATHS).unwrap_or(&[]) {
-        paths.push(String::from_str(alloc, path)?)?;
-    }
+    let paths = words_of(alloc, given, PATHS)?;
     Ok(Import {
         file: String::from_str(alloc, given.get_str(FILE).unwrap_or(""))?,
         loader: String::from_str(alloc, given.get_str(LOADER).unwrap_or(""))?,
         paths,
         new: sizes_of_new(given),
         workers: workers_of(rt, given),
+        tag: others_of(given),
+        replaces: given.get_flag(REPLACE),
+        is_dry: given.get_flag(DRY_RUN),
     })
+}
+
+/// Whether the loader has a tag, and what then becomes of other ones.
+fn others_of(given: &ArgMatches<'_>) -> Option<Others> {
+    if !given.get_flag(TAG) {
+        return None;
+    }
+    if given.get_flag(KEEP) {
+        Some(Others::Kept)
+    } else {
+        Some(Others::Unloaded)
+    }
 }
 
 /// The sizes of a new file, if one is to be made.

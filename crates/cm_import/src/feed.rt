@@ -4,12 +4,14 @@ ghost use Rattle.std.specs.Prelude.{◌≡◌, ◌≤◌, ◌<◌, ◌+◌, leng
 ghost use Rattle.cm_import.specs.Left.{left_in, unread_of, left_of};
 
 use crate::batch::{entries_at_once, files_at_once};
-use crate::open_jar::{OpenJar, UnreadJar};
+use crate::loaders::class_names;
+use crate::open_jar::OpenJar;
 use crate::preparer::{Named, Preparer};
 use crate::report::{Given, Report};
 use cm_commands::Prepared;
 use cm_found_classes::Place;
-use cm_importing::{Feed, Outcome};
+use cm_front::Front;
+use cm_importing::{Compared, Feed, Outcome, compare};
 use cm_jar::JarFault;
 use std::alloc::{AllocError, Global};
 use std::collections::HashSet;
@@ -19,6 +21,20 @@ use std::time::Clock;
 
 /// How many classes are stored in one group.
 const GROUP: usize = 64;
+
+/// How each class compares with the one that the loader has.
+fn compare_each(
+    alloc: Global,
+    front: &Front,
+    loader: &[u8],
+    classes: &[Prepared],
+) -> Result<Vec<Compared>, AllocError> {
+    let mut compared = Vec::new(alloc);
+    for class in classes {
+        compared.push(compare(alloc, front, loader, class)?)?;
+    }
+    Ok(compared)
+}
 
 /// Reads the classes of places, in their order.
 #[derive(Drop)]
@@ -50,6 +66,49 @@ where
             given,
             seen,
         }
+    }
+
+    /// Compares the next classes with those that a loader of a cache has. Whether there were any.
+    fn compare_next<T: Threads + Sync>(
+        &mut self,
+        threads: &T,
+        front: &Front,
+        loader: &[u8],
+    ) -> Result<bool, AllocError>
+        ensures { result ≡ Ok true → left_of self.new < left_of self.old }
+    {
+        let alloc = self.preparer.rt().alloc();
+        let Some(classes) = self.next(threads, alloc)? else {
+            return Ok(false);
+        };
+        let compared = compare_each(alloc, front, loader, &classes)?;
+        self.preparer.add_compared(&self.given, &compared);
+        Ok(true)
+    }
+
+    /// Compares all classes with those that a loader of a cache has, and gives how many names of
+    /// the loader's classes none of them has.
+    pub fn compare_all<T: Threads + Sync>(
+        &mut self,
+        threads: &T,
+        front: &Front,
+        loader: &[u8],
+    ) -> Result<u64, AllocError> {
+        while self.compare_next(threads, front, loader)? {}
+        let mut gone = 0u64;
+        for name in &class_names(self.preparer.rt().alloc(), front, loader)? {
+            if !self.seen.contains(name) {
+                gone = gone.saturating_add(1);
+            }
+        }
+        Ok(gone)
+    }
+
+    /// Reads all classes, which are counted.
+    pub fn count_all<T: Threads + Sync>(&mut self, threads: &T) -> Result<(), AllocError> {
+        let alloc = self.preparer.rt().alloc();
+        while self.next(threads, alloc)?.is_some() {}
+        Ok(())
     }
 
     /// What became of the classes.
@@ -114,8 +173,12 @@ where
         let rt = self.preparer.rt();
         let name = String::from_str(rt.alloc(), path.as_str())?;
         match OpenJar::read(rt, path) {
-            Ok(jar) => self.jar = Some(jar),
-            Err(UnreadJar::NoMemory) => return Err(AllocError),
+            Ok(jar) => {
+                if let Some(fault) = jar.nested() {
+                    self.preparer.add_unread(name.as_str(), fault);
+                }
+                self.jar = Some(jar);
+            }
             Err(fault) => self.preparer.add_unread(name.as_str(), fault),
         }
         Ok(())

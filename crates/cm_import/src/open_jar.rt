@@ -3,9 +3,9 @@
 ghost use Rattle.std.specs.Prelude.{◌≤◌, ◌<◌, ◌+◌, length, IfOk, Some};
 ghost use Rattle.cm_import.specs.Left.{left_in};
 
-use cm_found_classes::class_entries;
+use cm_found_classes::{class_entries, is_jar_name};
 use cm_jar::{Entry, Jar, JarFault};
-use std::alloc::Global;
+use std::alloc::{AllocError, Global};
 use std::fs::{self, File, Files};
 use std::io;
 use thiserror::Error;
@@ -17,26 +17,71 @@ pub struct OpenJar {
     bytes: Vec<u8>,
     /// How many class files aren't read yet.
     left: u16,
+    /// How many jars it has, which aren't read.
+    jars: usize,
 }
 
-/// Why a jar can't be read.
+/// Why a jar can't be read, or not all of it.
 #[derive(Clone, Copy, Debug, Error)]
 pub enum UnreadJar {
     #[error("{0}")]
     File(io::Error),
     #[error("{0}")]
     Jar(JarFault),
-    #[error("out of memory")]
-    NoMemory,
+    #[error("its entries overlap: so many bytes can't be packed into it")]
+    Overlapping,
+    #[error("jars in it aren't read: {0}")]
+    Nested(usize),
 }
 
-/// How many class files a jar has. Its directory declares at most 65,535 entries.
-fn count_classes(alloc: Global, bytes: &[u8]) -> Result<u16, JarFault> {
+impl From<JarFault> for UnreadJar {
+    fn from(fault: JarFault) -> UnreadJar {
+        UnreadJar::Jar(fault)
+    }
+}
+
+impl From<AllocError> for UnreadJar {
+    fn from(_error: AllocError) -> UnreadJar {
+        UnreadJar::Jar(JarFault::NoMemory)
+    }
+}
+
+/// How many bytes one packed byte makes at most: DEFLATE copies 258 bytes by no fewer than two bits
+/// (RFC 1951, section 3.2.5), and a stored byte makes one.
+const MOST_UNPACKED: u64 = 1032;
+
+/// How many entries of a jar are class files, and how many are jars.
+#[derive(Clone, Copy)]
+struct Counted {
+    classes: u16,
+    jars: usize,
+}
+
+/// Whether entries that don't overlap may have as many bytes as these, in a file of this length.
+fn may_hold(len: usize, entries: &[Entry<'_>]) -> bool {
+    let mut bytes = 0u64;
+    for entry in entries {
+        bytes = bytes.saturating_add(u64::from(entry.size()));
+    }
+    bytes <= MOST_UNPACKED.saturating_mul(len as u64)
+}
+
+/// How many entries of each kind a jar has. Its directory declares at most 65,535 entries.
+fn count_entries(alloc: Global, bytes: &[u8]) -> Result<Counted, UnreadJar> {
     let jar = Jar::read(alloc, bytes)?;
     let entries = class_entries(alloc, &jar)?;
+    if !may_hold(bytes.len(), &entries) {
+        return Err(UnreadJar::Overlapping);
+    }
+    let mut jars = 0usize;
+    for entry in jar.entries() {
+        if is_jar_name(entry.name()) {
+            jars = jars.saturating_add(1);
+        }
+    }
     match u16::try_from(entries.len()) {
-        Ok(count) => Ok(count),
-        Err(_) => Err(JarFault::OtherCount),
+        Ok(classes) => Ok(Counted { classes, jars }),
+        Err(_) => Err(UnreadJar::Jar(JarFault::OtherCount)),
     }
 }
 
@@ -49,15 +94,23 @@ impl OpenJar {
     {
         let bytes = match fs::read(rt, path.as_str()) {
             Ok(bytes) => bytes,
-            Err(cause) if cause.kind() == io::ErrorKind::OutOfMemory => {
-                return Err(UnreadJar::NoMemory);
-            }
             Err(cause) => return Err(UnreadJar::File(cause)),
         };
-        match count_classes(rt.alloc(), &bytes) {
-            Ok(left) => Ok(OpenJar { path, bytes, left }),
-            Err(JarFault::NoMemory) => Err(UnreadJar::NoMemory),
-            Err(fault) => Err(UnreadJar::Jar(fault)),
+        let Counted { classes, jars } = count_entries(rt.alloc(), &bytes)?;
+        Ok(OpenJar {
+            path,
+            bytes,
+            left: classes,
+            jars,
+        })
+    }
+
+    /// The jars in it, as what isn't read of it, if there are any.
+    pub fn nested(&self) -> Option<UnreadJar> {
+        if self.jars == 0 {
+            None
+        } else {
+            Some(UnreadJar::Nested(self.jars))
         }
     }
 
@@ -82,11 +135,21 @@ impl OpenJar {
         ensures fewer { left_in result < left_in (Some self) }
         ensures others { left_in result + count ≤ left_in (Some self) }
     {
-        let OpenJar { path, bytes, left } = self;
+        let OpenJar {
+            path,
+            bytes,
+            left,
+            jars,
+        } = self;
         let left = left - count as u16;
         if count == 0 || left == 0 {
             return None;
         }
-        Some(OpenJar { path, bytes, left })
+        Some(OpenJar {
+            path,
+            bytes,
+            left,
+            jars,
+        })
     }
 }

@@ -8,12 +8,12 @@ use crate::progress::Progress;
 use crate::report::{Given, Report};
 use cm_commands::{Prepared, Refusal};
 use cm_found_classes::Place;
-use cm_jar::Entry;
+use cm_importing::Compared;
+use cm_jar::{Entry, EntryFault, LARGEST};
 use std::alloc::AllocError;
 use std::collections::VecDeque;
 use std::fmt::Display;
 use std::fs::{self, File, Files};
-use std::io::ErrorKind;
 use std::num::NonZeroUsize;
 use std::thread::Threads;
 use std::time::Clock;
@@ -126,6 +126,15 @@ where
         self.progress.show(self.rt, self.report.imported());
     }
 
+    /// Tells the report how these classes compare with those that the loader has.
+    pub fn add_compared(&mut self, classes: &[Given], compared: &[Compared])
+        ensures { self.new.ready ≡ self.old.ready }
+    {
+        for (class, compared) in classes.iter().zip(compared) {
+            self.report.add_compared(self.rt, class, *compared);
+        }
+    }
+
     /// What became of all classes.
     pub fn into_report(self) -> Report {
         self.progress.clear(self.rt);
@@ -150,12 +159,15 @@ where
         let mut jobs = Vec::with_capacity(alloc, files.len())?;
         for file in files {
             self.progress.add_read(file.len());
+            if u64::from(LARGEST) < file.len() {
+                self.add_unread(file.path(), EntryFault::TooLarge);
+                continue;
+            }
             match fs::read(self.rt, file.path()) {
                 Ok(bytes) => {
                     let name = String::from_str(alloc, file.path())?;
                     jobs.push(Job::new(name, Source::Bytes(bytes)))?;
                 }
-                Err(cause) if cause.kind() == ErrorKind::OutOfMemory => return Err(AllocError),
                 Err(cause) => self.add_unread(file.path(), cause),
             }
         }

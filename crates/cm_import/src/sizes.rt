@@ -36,6 +36,11 @@ impl Records {
         largest: 0,
     };
 
+    /// Whether there is none.
+    pub fn is_empty(&self) -> bool {
+        self.count == 0
+    }
+
     /// Adds a record of this many bytes.
     pub fn add(&mut self, bytes: u64) {
         self.count = self.count.saturating_add(1);
