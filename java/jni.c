@@ -364,3 +364,30 @@ JNIEXPORT jint JNICALL Java_org_cmcache_Native_viewStats(FROM_JAVA, jlong view, 
     tell(env, told, 2, (jlong[]){(jlong)counts.number, (jlong)counts.number});
     return status;
 }
+
+/* The tag of jars, folders and class files, as ASCII, into `tag`. DEVICE: the cause. */
+JNIEXPORT jint JNICALL Java_org_cmcache_Native_tag(FROM_JAVA, jobjectArray paths, jbyteArray tag,
+                                                   jlongArray told)
+{
+    jsize count = (*env)->GetArrayLength(env, paths), taken = 0;
+    char digits[17] = "";
+    int32_t status = CMCORE_NO_MEMORY;
+    int cause = 0;
+    char **names = calloc((size_t)count + 1, sizeof *names);
+    while (names != NULL && taken < count) {
+        jbyteArray path = (*env)->GetObjectArrayElement(env, paths, taken);
+        names[taken] = path_of(env, path);
+        (*env)->DeleteLocalRef(env, path); /* a frame has room for few */
+        if (names[taken++] == NULL)
+            break;
+    }
+    if (names != NULL && (count == 0 || names[count - 1] != NULL)) {
+        status = cmcache_tag((const char *const *)names, (size_t)count, digits);
+        cause = errno;
+    }
+    while (taken > 0)
+        free(names[--taken]);
+    free(names);
+    (*env)->SetByteArrayRegion(env, tag, 0, 16, (const jbyte *)digits);
+    return with_cause(env, status, cause, told);
+}

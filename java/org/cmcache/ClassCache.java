@@ -2,6 +2,7 @@ package org.cmcache;
 
 import java.io.ByteArrayOutputStream;
 import java.io.UncheckedIOException;
+import java.nio.charset.StandardCharsets;
 import java.nio.file.FileSystems;
 import java.nio.file.Path;
 import java.util.ArrayList;
@@ -138,6 +139,27 @@ public final class ClassCache implements AutoCloseable {
             }
         }
         return to.toByteArray();
+    }
+
+    /**
+     * The tag of jars, folders and class files as they are now, by which a server knows whether
+     * they have changed: {@code cm_import --tag} puts it behind a loader's name and an {@code @}.
+     * Of a jar only the directory is read.
+     *
+     * @param paths where the classes are, in the order of the class path
+     * @return 16 hexadecimal digits
+     * @throws CacheException if a path can't be read ({@link CacheException.Device}, NO_FILE,
+     *     NOT_ALLOWED), or is something else (NOT_REGULAR, TOO_LONG)
+     */
+    public static String tag(List<Path> paths) throws CacheException {
+        byte[][] names = new byte[paths.size()][];
+        for (int at = 0; at < names.length; at++) {
+            names[at] = bytes(paths.get(at));
+        }
+        byte[] digits = new byte[16];
+        long[] told = new long[Native.MOST_TOLD];
+        check(Native.tag(names, digits, told), paths, told);
+        return new String(digits, StandardCharsets.US_ASCII);
     }
 
     /** The sizes of a file that is made; those of a file that is there stay as they are. */

@@ -102,4 +102,7 @@ final class Native {
     static native int viewStats(long view, long[] told);
 
     static native int stats(long cache, long[] told);
+
+    /** The 16 digits of the tag of these paths. */
+    static native int tag(byte[][] paths, byte[] tag, long[] told);
 }
