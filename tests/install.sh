@@ -34,6 +34,8 @@ alone cm_import f jar "$PWD/examples/first.jar"
 check_status "the installed importer" 0
 alone cm_stat f
 check_status "the installed statistics" 0
+alone cm_show f jar A
+check_status "the installed reader of classes" 0
 printf 'geometry 3 1 256\n' >"$work/in"
 alone cm_simulate
 check_status "the installed simulator" 0
