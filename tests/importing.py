@@ -448,12 +448,16 @@ def kills_of_new(bench, jar, names, count, rng):
                        not os.path.exists(path), f"{got}")
 
 
+# A directory that asks for a later version of the format is read alike.
+zipfile.MAX_EXTRACT_VERSION = 255
+
+
 def listed(path):
     """How many class files a jar's directory lists; None if zipfile can't read it."""
     try:
         with zipfile.ZipFile(path) as jar:
-            names = [name.rsplit("/", 1)[-1] for name in jar.namelist()]
-    except (zipfile.BadZipFile, NotImplementedError):
+            names = [info.orig_filename.rsplit("/", 1)[-1] for info in jar.infolist()]
+    except zipfile.BadZipFile:
         return None
     return sum(name.endswith(".class") and name not in ("module-info.class", "package-info.class")
                for name in names)
